@@ -1,0 +1,13 @@
+pub mod Inject
+pub mod Moves
+pub mod Trees
+pub mod Unique
+pub mod Frees
+pub mod Wholes
+pub mod Walks
+pub mod Builds
+pub mod Bridge
+pub mod Steps
+pub mod Skips
+pub mod Ways
+pub mod Whole

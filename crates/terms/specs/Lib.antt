@@ -1,0 +1,11 @@
+pub mod Lists
+pub mod Cells
+pub mod Fields
+pub mod Rows
+pub mod Grammar
+pub mod Terms
+pub mod Places
+pub mod Layout
+pub mod Standing
+pub mod Descents
+pub mod Facts
