@@ -51,12 +51,15 @@ spelling (suc n) bytes h f =
         let l : 8 ≤ length bytes = omega arith in
         let x = first-cell bytes f l in
         let m = more l in
-        let s = m .2 in
-        (x ∷ m .0, m .1, record {
-          words = (first-fits bytes f l, s .words);
-          spelt = sym (take-append-drop 8 bytes) ∙ ap (λ l. l ++ drop 8 bytes) (sym (first-spelt bytes f l)) ∙ ap (λ l. spell-cell x ++ l) (s .spelt) ∙ sym (append-assoc (spell-cell x) (spell spell-cell (m .0)) (m .1));
-          short = s .short;
-        })
+        let s = m .2 in (
+          x ∷ m .0,
+          m .1,
+          record {
+            words = (first-fits bytes f l, s .words);
+            spelt = sym (take-append-drop 8 bytes) ∙ ap (λ l. l ++ drop 8 bytes) (sym (first-spelt bytes f l)) ∙ ap (λ l. spell-cell x ++ l) (s .spelt) ∙ sym (append-assoc (spell-cell x) (spell spell-cell (m .0)) (m .1));
+            short = s .short;
+          },
+        )
 
 pub spell-length : (xs : List ℕ) → length (spell spell-cell xs) ≡ 8 * length xs
 spell-length [] = refl
@@ -143,12 +146,16 @@ module _ (bytes old new : List ℕ) (n : ℕ) (read : CellsRead bytes old new n)
           let l : i < length (take n new) = grind (arith, tells, count-is) in
           let m = spelling (length bytes) (drop (8 * n) bytes) (omega (arith, length-drop (8 * n) bytes)) (λ k. subst (λ y. y < 256) (sym (getD-drop (8 * n) bytes k 0)) (fit (8 * n + k))) in
           let s = m .2 in
-          let sp = spell-++ (take n new) (m .0) in
-          (take n new ++ m .0, m .1, record {
-            words = all-++ (λ c. c < 2 ^ 64) (take n new) (m .0) (read .words) (s .words);
-            spelt = sym (take-append-drop (8 * n) bytes) ∙ ap (λ l. l ++ drop (8 * n) bytes) (sym (read .spelt)) ∙ ap (λ l. spell spell-cell (take n new) ++ l) (s .spelt) ∙ sym (append-assoc (spell spell-cell (take n new)) (spell spell-cell (m .0)) (m .1)) ∙ ap (λ l. l ++ m .1) (sym sp);
-            short = s .short;
-          }, bad-of (take n new ++ m .0) (m .1) i (broken-more (take n new) (m .0) i l b))
+          let sp = spell-++ (take n new) (m .0) in (
+            take n new ++ m .0,
+            m .1,
+            record {
+              words = all-++ (λ c. c < 2 ^ 64) (take n new) (m .0) (read .words) (s .words);
+              spelt = sym (take-append-drop (8 * n) bytes) ∙ ap (λ l. l ++ drop (8 * n) bytes) (sym (read .spelt)) ∙ ap (λ l. spell spell-cell (take n new) ++ l) (s .spelt) ∙ sym (append-assoc (spell spell-cell (take n new)) (spell spell-cell (m .0)) (m .1)) ∙ ap (λ l. l ++ m .1) (sym sp);
+              short = s .short;
+            },
+            bad-of (take n new ++ m .0) (m .1) i (broken-more (take n new) (m .0) i l b),
+          )
       go false e =
           let ge : n ≤ i = grind (arith, tells) in
           let few : (2048 < n → ⊥) = λ k. b .before 2048 (omega arith) (many refl) in

@@ -156,10 +156,10 @@ module _ (cells place : List ℕ) (t : Row) (k at : ℕ) (is : TreeOf cells t) (
         entry = h;
         so-far = record { tree = t; is = is; there = come .there };
         astray = λ m.
-          let same-tree = one-tree cells (m .tree) t (m .is) is in
-          let p : Place t 0 (take k place ++ n ∷ []) = subst (Place t 0) (ap (λ j. take j place) (sym (add-one k)) ∙ take-more place k 0 h) (subst (λ x. Place x 0 (take (suc k) place)) same-tree (m .there)) in
-          let q : Place (node (one .0) (one .1) none) 0 (n ∷ []) = subst (λ x. Place x 0 (n ∷ [])) e (place-apart t 0 (take k place) (n ∷ []) p) in
-          omega (arith, place-width (one .1) n q, g);
+            let same-tree = one-tree cells (m .tree) t (m .is) is in
+            let p : Place t 0 (take k place ++ n ∷ []) = subst (Place t 0) (ap (λ j. take j place) (sym (add-one k)) ∙ take-more place k 0 h) (subst (λ x. Place x 0 (take (suc k) place)) same-tree (m .there)) in
+            let q : Place (node (one .0) (one .1) none) 0 (n ∷ []) = subst (λ x. Place x 0 (n ∷ [])) e (place-apart t 0 (take k place) (n ∷ []) p) in
+            omega (arith, place-width (one .1) n q, g);
       }
 
 -- the whole place is gone down
