@@ -11,3 +11,8 @@ pub mod Steps
 pub mod Skips
 pub mod Ways
 pub mod Whole
+pub mod Goings
+pub mod Judgings
+pub mod Readings
+pub mod Entries
+pub mod Deciding

@@ -1,16 +1,16 @@
 -- A walk over cells that counts the trees still to come: where they end, those that it began with end. Assumes nothing.
 use mathlib.Core.Path.{_≡_, refl, sym, ap, _∙_}
-use mathlib.Core.List.{List, [], _∷_, _++_}
+use mathlib.Core.List.{List, _∷_, _++_}
 use Prim.Native.Nat.{ℕ, zero, suc, _+_, _-_, _^_, _<_, _≤_}
 use native.Mathlib.Omega.{arith}
-use lib.ListN.{length, getD, drop}
+use lib.ListN.{length, getD}
 use Rattle.std.proofs.shelf.Lists.{drop-more}
 use Rattle.terms.specs.Cells.{children}
 use Rattle.terms.specs.Rows.{Row, flat, size, width, Counted, _&_}
 use Rattle.terms.specs.Rows.Row.{none, node}
 use Rattle.terms.specs.Standing.{Stands}
 use Rattle.terms.proofs.Inject.{width-&}
-use Rattle.terms.proofs.Trees.{flat-size, flat-&, counted-&}
+use Rattle.terms.proofs.Trees.{flat-&, counted-&}
 use Rattle.terms.proofs.Bridge.{size-&}
 use Rattle.terms.proofs.Steps.{opened}
 

@@ -2,7 +2,7 @@
 use mathlib.Core.Path.{_≡_, refl, sym, ap, subst, _∙_}
 use mathlib.Core.List.{List, [], _∷_, _++_, append-assoc, append-nil}
 use mathlib.Core.Logic.{_⊎_, inl, inr}
-use Prim.Native.Nat.{ℕ, zero, suc, _+_, _-_, _^_, _<_, _≤_}
+use Prim.Native.Nat.{ℕ, suc, _+_, _-_, _<_, _≤_}
 use native.Mathlib.Omega.{arith}
 use lib.ListN.{length, getD, set, drop, length-append, length-drop, length-set}
 use Rattle.std.proofs.shelf.Lists.{drop-more, drop-drop, drop-at}
@@ -11,7 +11,6 @@ use Rattle.terms.specs.Lists.{over}
 use Rattle.terms.specs.Rows.{Row, flat, size, width, above, Counted}
 use Rattle.terms.specs.Rows.Row.{none, node}
 use Rattle.terms.specs.Standing.{Stands}
-use Rattle.terms.proofs.Inject.{empty}
 use Rattle.terms.proofs.Trees.{flat-size}
 
 -- a row of some trees that stands at a cell: the first cell, its children from the next on, and the other trees

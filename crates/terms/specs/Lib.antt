@@ -9,3 +9,5 @@ pub mod Layout
 pub mod Standing
 pub mod Descents
 pub mod Facts
+pub mod Judging
+pub mod Reading

@@ -1,0 +1,5 @@
+pub mod Renames
+pub mod Overs
+pub mod Substitutes
+pub mod Calls
+pub mod Keeps

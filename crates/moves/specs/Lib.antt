@@ -1,0 +1,5 @@
+pub mod Renamings
+pub mod Images
+pub mod Substitutions
+pub mod Moved
+pub mod Laws
