@@ -1,7 +1,8 @@
 // Cells in bytes: eight bytes a cell, most significant first.
 ghost use mathlib.Core.Path.{_≡_};
-ghost use Prim.Native.Nat.{ℕ, _+_, _*_, _≤_};
+ghost use Prim.Native.Nat.{_+_, _/_, _≤_};
 ghost use lib.ListN.{length, take, drop};
+ghost use Rattle.bytes.specs.Holding.{CellsMeasured};
 ghost use Rattle.bytes.specs.Spelling.{spell-cell, CellsRead};
 
 // The cell that eight bytes spell.
@@ -30,4 +31,24 @@ pub fn read_cells(bytes: &[u8], cells: &mut [u64]) -> usize
         cells[i] = cell_at(bytes, 8 * i);
     }
     n
+}
+
+// How many whole cells the bytes spell.
+fn whole_cells(bytes: &[u8]) -> usize
+    ensures { λ r. ⌜ r ≡ length (now (bytes .entry)) / 8 ⌝ }
+{
+    bytes.len() / 8
+}
+
+// The first byte lacking or left over where the bytes are to hold exactly so many cells; none where they do.
+pub fn cells_amiss(bytes: &[u8], count: usize) -> Option<usize>
+    ensures { λ r. ⌜ CellsMeasured count (now (bytes .entry)) r ⌝ }
+{
+    if whole_cells(bytes) < count {
+        return Some(bytes.len());
+    }
+    if bytes.len() > 8 * count {
+        return Some(8 * count);
+    }
+    None
 }

@@ -3,20 +3,21 @@ use mathlib.Core.Path.{_≡_, refl, sym, ap, subst, _∙_}
 use mathlib.Core.List.{List, [], _∷_, _++_, append-nil}
 use mathlib.Core.Bool.{Bool, true, false, cond}
 use Prim.Native.Nat.{ℕ, zero, suc, _+_, _-_, _≤_}
+use native.Mathlib.Nat.{zero-add}
 use native.Mathlib.Omega.{arith}
-use lib.Dec.{eqb}
+use lib.Dec.{eqb, ltb}
 use lib.ListN.{length, length-append}
 use Rattle.std.proofs.shelf.Ways.{tells}
 use Rattle.terms.specs.Lists.{over}
-use Rattle.terms.specs.Rows.{Row, flat, size, var}
+use Rattle.terms.specs.Rows.{Row, flat, size, var, «for», instead}
 use Rattle.terms.specs.Standing.{Stands}
 use Rattle.terms.specs.Terms.{TreeOf}
 use Rattle.terms.proofs.Trees.{flat-size}
 use Rattle.moves.specs.declared.images.Image.the-variants.{Tree, Number}
 use Rattle.moves.specs.declared.images.Substitution.{Substitution}
-use Rattle.moves.specs.declared.images.Substitution.the-variants.{Replace, Instead}
+use Rattle.moves.specs.declared.images.Substitution.the-variants.{Replace, Instead, Bindings}
 use Rattle.moves.specs.declared.images.Image.{Image}
-use Rattle.moves.specs.Images.{image-of, extent, Shown, Shows, Sizes, Spans, puts}
+use Rattle.moves.specs.Images.{span, bound-of, image-of, extent, Shown, Shows, Sizes, Spans, puts}
 use Rattle.moves.specs.Moved.{OneTerm, Written}
 use Rattle.moves.proofs.Overs.{over-front}
 
@@ -47,6 +48,14 @@ one-term cells end t same st = go (eqb end (length cells)) refl
 pub written : (t : Row) (space space′ : List ℕ) (n : ℕ) → n ≡ size t → n ≤ length space → space′ ≡ over space 0 (flat t) → Written t space space′ n
 written t space space′ n e l w = record { count = e; fits = l; writes = w ∙ over-front space (flat t) n (e ∙ sym (flat-size t)) l }
 
+-- a tree among the values for the nearest binder
+pub shows-instead : (a e : ℕ) (values : List ℕ) (v : Row) → Stands v 1 values a → e ≡ a + size v → Shows values (Instead a e) (instead v)
+shows-instead a e values v st z zero = (st, z)
+shows-instead a e values v st z (suc n) =
+    let k : eqb (suc n) 0 ≡ false = grind (arith, tells) in
+    let m : n ≡ suc n - 1 = omega arith in
+    subst (λ q. Shown values (cond q (Tree a e) (Number (suc n - 1))) (var n)) (sym k) (ap var m)
+
 -- the value's cells hold the tree that is put
 pub shows-value : (how : Substitution) (value : List ℕ) (v : Row) → TreeOf value v → Spans how (length value) → Shows value how (puts how v)
 shows-value (Replace x a e) value v is sp n = go (eqb n x)
@@ -54,11 +63,15 @@ shows-value (Replace x a e) value v is sp n = go (eqb n x)
     go : (q : Bool) → Shown value (cond q (Tree a e) (Number n)) (cond q v (var n))
     go true = (subst (Stands v 1 value) (sym (sp .0)) (term-stands is), omega (arith, sp .0, sp .1, term-size is))
     go false = refl
-shows-value (Instead a e) value v is sp zero = (subst (Stands v 1 value) (sym (sp .0)) (term-stands is), omega (arith, sp .0, sp .1, term-size is))
-shows-value (Instead a e) value v is sp (suc n) =
-    let k : eqb (suc n) 0 ≡ false = grind (arith, tells) in
-    let m : n ≡ suc n - 1 = omega arith in
-    subst (λ q. Shown value (cond q (Tree a e) (Number (suc n - 1))) (var n)) (sym k) (ap var m)
+shows-value (Instead a e) value v is sp n = shows-instead a e value v (subst (Stands v 1 value) (sym (sp .0)) (term-stands is)) (omega (arith, sp .0, sp .1, term-size is)) n
+shows-value (Bindings bs) value v is sp n = subst (λ l. Shown value (bound-of l n) («for» v 0 n)) (sym sp) (go n)
+  where
+    go : (n : ℕ) → Shown value (bound-of (span 0 (length value) ∷ []) n) («for» v 0 n)
+    go zero = (term-stands is, sym (term-size is) ∙ sym (zero-add (size v)))
+    go (suc n) =
+        let k : ltb (suc n) 1 ≡ false = grind (arith, tells) in
+        let l : eqb (suc n) 0 ≡ false = grind (arith, tells) in
+        rw (k, l) refl
 
 -- a tree among the values has as many cells as its image
 shown-size : (values : List ℕ) (i : Image) (t : Row) → Shown values i t → extent i ≡ size t

@@ -3,3 +3,4 @@ pub mod Overs
 pub mod Substitutes
 pub mod Calls
 pub mod Keeps
+pub mod Seeks

@@ -4,6 +4,7 @@ ghost use Prim.Native.Nat.{_+_, _-_, _^_, _<_, _≤_};
 ghost use lib.ListN.{length};
 ghost use Rattle.terms.specs.Lists.{over};
 ghost use Rattle.terms.specs.Rows.{Row, flat, size, raise};
+ghost use Rattle.moves.specs.declared.images.Substitution.the-variants.{Replace, Instead, Bindings};
 ghost use Rattle.moves.specs.Images.{image-of, extent, Shown};
 use crate::renaming::Renaming;
 use crate::renaming::rename_row;
@@ -47,19 +48,49 @@ impl Image {
     }
 }
 
-// Which trees and numbers stand for the free variables.
+// The cells of a tree among the values.
 #[derive(Clone, Copy, PartialEq, Eq, Debug)]
-pub enum Substitution {
+pub struct Span {
+    pub start: usize,
+    pub end: usize,
+}
+
+// Which trees and numbers stand for the free variables.
+#[derive(Clone, Copy, Debug)]
+pub enum Substitution<'a> {
     // A tree for x, and every other number for itself.
     Replace { x: u64, start: usize, end: usize },
     // A tree for 0, and for any other number the one below it.
     Instead { start: usize, end: usize },
+    // The tree of that number among these for a number, and every number past them for itself.
+    Bindings { spans: &'a [Span] },
 }
 
-impl Substitution {
+impl<'a> Substitution<'a> {
+    // The tree from start to end for x.
+    pub fn replace(x: u64, start: usize, end: usize) -> Substitution<'a>
+        ensures { λ r. ⌜ r ≡ Replace x start «end» ⌝ }
+    {
+        Substitution::Replace { x, start, end }
+    }
+
+    // The tree from start to end for the variable of the nearest binder.
+    pub fn instead(start: usize, end: usize) -> Substitution<'a>
+        ensures { λ r. ⌜ r ≡ Instead start «end» ⌝ }
+    {
+        Substitution::Instead { start, end }
+    }
+
+    // The trees that lie so, for 0, 1 and so on.
+    pub fn bindings(spans: &'a [Span]) -> Substitution<'a>
+        ensures { λ r. ⌜ r ≡ Bindings (spans .entry) ⌝ }
+    {
+        Substitution::Bindings { spans }
+    }
+
     // What stands for a free number.
     pub fn image(self, n: u64) -> Image
-        ensures { λ r. ⌜ r ≡ image-of self n ⌝ }
+        ensures { λ r. ⌜ r ≡ image-of (self .entry) n ⌝ }
     {
         match self {
             Substitution::Replace { x, start, end } => {
@@ -74,6 +105,17 @@ impl Substitution {
                     Image::Tree { start, end }
                 } else {
                     Image::Number(n - 1)
+                }
+            }
+            Substitution::Bindings { spans } => {
+                if n < spans.len() as u64 {
+                    let span = spans[n as usize];
+                    Image::Tree {
+                        start: span.start,
+                        end: span.end,
+                    }
+                } else {
+                    Image::Number(n)
                 }
             }
         }

@@ -10,6 +10,7 @@ ghost use Rattle.moves.specs.Renamings.{renamed, most};
 
 pub mod images;
 pub mod laws;
+pub mod occurs;
 pub mod renaming;
 pub mod space;
 pub mod substitution;
@@ -71,7 +72,7 @@ fn put_value(
     space: &mut [u64],
 ) -> Result<usize, Unmoved>
     requires { ⌜ Spans how (length (now value)) ⌝ }
-    ensures { λ r. ⌜ MovedWith (put how) (now (cells .entry)) (now (value .entry)) (now (space .entry)) (now (space .exit)) r ⌝ }
+    ensures { λ r. ⌜ MovedWith (put (how .entry)) (now (cells .entry)) (now (value .entry)) (now (space .entry)) (now (space .exit)) r ⌝ }
 {
     if !is_term(cells) {
         return Err(Unmoved::NoTerm);
@@ -106,11 +107,7 @@ pub fn lower(cells: &[u64], space: &mut [u64]) -> Result<usize, Unmoved>
 pub fn substitute(cells: &[u64], x: u32, value: &[u64], space: &mut [u64]) -> Result<usize, Unmoved>
     ensures { λ r. ⌜ MovedWith (λ v t. replace v x t) (now (cells .entry)) (now (value .entry)) (now (space .entry)) (now (space .exit)) r ⌝ }
 {
-    let how = Substitution::Replace {
-        x: x as u64,
-        start: 0,
-        end: value.len(),
-    };
+    let how = Substitution::replace(x as u64, 0, value.len());
     put_value(cells, value, how, space)
 }
 
@@ -118,10 +115,7 @@ pub fn substitute(cells: &[u64], x: u32, value: &[u64], space: &mut [u64]) -> Re
 pub fn instantiate(cells: &[u64], value: &[u64], space: &mut [u64]) -> Result<usize, Unmoved>
     ensures { λ r. ⌜ MovedWith instantiate (now (cells .entry)) (now (value .entry)) (now (space .entry)) (now (space .exit)) r ⌝ }
 {
-    let how = Substitution::Instead {
-        start: 0,
-        end: value.len(),
-    };
+    let how = Substitution::instead(0, value.len());
     put_value(cells, value, how, space)
 }
 

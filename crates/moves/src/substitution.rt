@@ -35,7 +35,7 @@ pub fn count_tree(
 ) -> Option<(usize, usize)>
     requires tree { ⌜ ((t : Row) × Stands t 1 (now cells) at) ⌝ }
     requires low { ⌜ d + (length (now cells) - at) < 2 ^ 62 ⌝ }
-    ensures { λ r. ⌜ ((t : Row) (s : ℕ → Row) → Stands t 1 (now (cells .entry)) at → Sizes how s → Spent (at + size t) (size (substitute s d 0 t)) room r) ⌝ }
+    ensures { λ r. ⌜ ((t : Row) (s : ℕ → Row) → Stands t 1 (now (cells .entry)) at → Sizes (how .entry) s → Spent (at + size t) (size (substitute s d 0 t)) room r) ⌝ }
 {
     let c = cells[at];
     match free_number(c, d) {
@@ -69,7 +69,7 @@ pub fn count_row(
 ) -> Option<(usize, usize)>
     requires row { ⌜ ((t : Row) × Stands t n (now cells) at) ⌝ }
     requires low { ⌜ d + b + (length (now cells) - at) < 2 ^ 62 ⌝ }
-    ensures { λ r. ⌜ ((t : Row) (s : ℕ → Row) → Stands t n (now (cells .entry)) at → Sizes how s → Spent (at + size t) (size (substitute s d b t)) room r) ⌝ }
+    ensures { λ r. ⌜ ((t : Row) (s : ℕ → Row) → Stands t n (now (cells .entry)) at → Sizes (how .entry) s → Spent (at + size t) (size (substitute s d b t)) room r) ⌝ }
 {
     if n == 0 {
         return Some((at, room));
@@ -93,7 +93,7 @@ pub fn substitute_tree(
     requires tree { ⌜ Putting 1 (now cells) at (now values) how d 0 (length (now out) - to) ⌝ }
     requires fits { ⌜ to ≤ length (now out) ⌝ }
     requires low { ⌜ d + (length (now cells) - at) < 2 ^ 62 ⌝ }
-    ensures { λ r. ⌜ ((t : Row) (s : ℕ → Row) → Stands t 1 (now (cells .entry)) at → Shows (now (values .entry)) how s → Substituted t (substitute s d 0 t) at to (now (out .entry)) (now (out .exit)) r) ⌝ }
+    ensures { λ r. ⌜ ((t : Row) (s : ℕ → Row) → Stands t 1 (now (cells .entry)) at → Shows (now (values .entry)) (how .entry) s → Substituted t (substitute s d 0 t) at to (now (out .entry)) (now (out .exit)) r) ⌝ }
 {
     let c = cells[at];
     match free_number(c, d) {
@@ -133,7 +133,7 @@ pub fn substitute_row(
     requires row { ⌜ Putting n (now cells) at (now values) how d b (length (now out) - to) ⌝ }
     requires fits { ⌜ to ≤ length (now out) ⌝ }
     requires low { ⌜ d + b + (length (now cells) - at) < 2 ^ 62 ⌝ }
-    ensures { λ r. ⌜ ((t : Row) (s : ℕ → Row) → Stands t n (now (cells .entry)) at → Shows (now (values .entry)) how s → Substituted t (substitute s d b t) at to (now (out .entry)) (now (out .exit)) r) ⌝ }
+    ensures { λ r. ⌜ ((t : Row) (s : ℕ → Row) → Stands t n (now (cells .entry)) at → Shows (now (values .entry)) (how .entry) s → Substituted t (substitute s d b t) at to (now (out .entry)) (now (out .exit)) r) ⌝ }
 {
     if n == 0 {
         return (at, to);

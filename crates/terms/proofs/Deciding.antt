@@ -10,3 +10,6 @@ holds p = (λ e. p, λ q. refl)
 
 pub fails : {P : Type 0} → (P → ⊥) → Decides false P
 fails n = (λ e. let z : _≡_ {A = ℕ} 0 1 = cc e in absurd (omega arith), λ q. absurd (n q))
+
+pub contrary : {b : Bool} → b ≡ true → b ≡ false → ⊥
+contrary p q = let z : _≡_ {A = ℕ} 0 1 = cc in omega arith

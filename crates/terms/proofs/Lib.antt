@@ -16,3 +16,6 @@ pub mod Judgings
 pub mod Readings
 pub mod Entries
 pub mod Deciding
+pub mod Endings
+pub mod Stability
+pub mod Uniform

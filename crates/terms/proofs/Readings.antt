@@ -1,7 +1,7 @@
 -- The cells of trees that count their children read as these trees, and of any trees read they are the cells. Assumes nothing.
-use mathlib.Core.Path.{_≡_, refl, sym, ap, subst, _∙_}
+use mathlib.Core.Path.{_≡_, refl, sym, ap, _∙_}
 use mathlib.Core.List.{List, [], _∷_, _++_, append-assoc, append-nil}
-use Prim.Native.Nat.{ℕ, zero, suc, _+_, _<_, _≤_}
+use Prim.Native.Nat.{ℕ, zero, suc, _+_}
 use native.Mathlib.Omega.{arith}
 use Rattle.terms.specs.Cells.{children}
 use Rattle.terms.specs.Rows.{Row, flat, width, _&_, Counted}

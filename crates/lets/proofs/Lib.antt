@@ -1,0 +1,15 @@
+pub mod Examples
+pub mod Unique
+pub mod Within
+pub mod Laws
+pub mod Matches
+pub mod Meaning
+pub mod MoreLaws
+pub mod Judges
+pub mod Lights
+pub mod Sides
+pub mod Countings
+pub mod Bounds
+pub mod Arrows
+pub mod Rulings
+pub mod Owners

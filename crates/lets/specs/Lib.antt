@@ -1,0 +1,9 @@
+pub mod Syntax
+pub mod Figure
+pub mod Examples
+pub mod Laws
+pub mod Meaning
+pub mod Answers
+pub mod Lightness
+pub mod Checks
+pub mod Owned

@@ -1,0 +1,14 @@
+pub mod Decided
+pub mod Turns
+pub mod Wholes
+pub mod Runs
+pub mod Plain
+pub mod Toy
+pub mod Made
+pub mod Turnings
+pub mod Ones
+pub mod Calling
+pub mod Tables
+pub mod Rewritings
+pub mod Handing
+pub mod Replays

@@ -1,0 +1,11 @@
+pub mod Numbers
+pub mod Questions
+pub mod Steps
+pub mod Chain
+pub mod Follows
+pub mod Theorem
+pub mod Calls
+pub mod Asked
+pub mod Rewriting
+pub mod Turning
+pub mod Performed
