@@ -3,8 +3,8 @@ use Rattle.std.proofs.Common.{◌≡◌, ℕ, zero, suc, ◌+◌, ◌-◌, ◌*�
 use lib.ListN.{length-replicate}
 use Rattle.std.proofs.lemmas.List.{drop_more, drop-drop, drop_all}
 use Rattle.terms.specs.Lists.{All}
-use Rattle.bytes.specs.Holding.{Lacking}
-use Rattle.bytes.proofs.Fills.{Bytes, bytes_drop, bytes_take, bytes_padded, getD_padded}
+use Rattle.cell_bytes.specs.Holding.{Lacking}
+use Rattle.cell_bytes.proofs.Fills.{Bytes, bytes_drop, bytes_take, bytes_padded, getD_padded}
 use Rattle.runs.specs.Steps.{Step}
 use Rattle.records.specs.Records.{head_of, spell_step, Spelt}
 use Rattle.records.specs.Reading.{leading, Stands}

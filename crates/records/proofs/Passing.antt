@@ -3,8 +3,8 @@ use Rattle.std.proofs.Common.{◌≡◌, ℕ, zero, suc, ◌+◌, ◌-◌, ◌^�
 use lib.ListN.{length-replicate}
 use Rattle.std.proofs.lemmas.List.{drop_more, drop_all}
 use Rattle.terms.specs.Lists.{All}
-use Rattle.bytes.specs.Spelling.{spell}
-use Rattle.bytes.specs.Holding.{Holds, Lacking, LeftOver}
+use Rattle.cell_bytes.specs.Spelling.{spell}
+use Rattle.cell_bytes.specs.Holding.{Holds, Lacking, LeftOver}
 use Rattle.runs.specs.Steps.{Step}
 use Rattle.records.specs.Records.{spell_step, Spelt, Steps}
 use Rattle.records.specs.Reading.{Stands}

@@ -1,7 +1,7 @@
 -- What is read of steps in bytes.
 use Rattle.std.specs.Prelude.{◌≡◌, ℕ, ◌+◌, ◌*◌, ◌^◌, ◌<◌, ◌≤◌, List, ◌++◌, length, drop, Some, None, Option, slice_index}
-use Rattle.bytes.specs.Spelling.{spell}
-use Rattle.bytes.specs.Holding.{Lacking, Measured}
+use Rattle.cell_bytes.specs.Spelling.{spell}
+use Rattle.cell_bytes.specs.Holding.{Lacking, Measured}
 use Rattle.runs.specs.Steps.{Step}
 use Rattle.records.specs.Records.{spell_step, Spelt, Steps}
 use Rattle.records.specs.declared.record.Record.{Record}

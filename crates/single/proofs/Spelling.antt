@@ -7,8 +7,8 @@ use Rattle.terms.specs.Terms.{Laid}
 use Rattle.terms.specs.Cells.{payload, Variable, Fields}
 use Rattle.terms.specs.Layout.{parents, walked, binders, Wrong, fields, far, deep, many, past, Broken, LayoutJudged}
 use Rattle.terms.proofs.Walks.{laid_right}
-use Rattle.bytes.specs.Spelling.{spell, spell_cell, CellsRead}
-use Rattle.bytes.proofs.Words.{word, spell_word, eight, all-++}
+use Rattle.cell_bytes.specs.Spelling.{spell, spell_cell, CellsRead}
+use Rattle.cell_bytes.proofs.Words.{word, spell_word, eight, all-++}
 use Rattle.single.specs.Verdicts.{Spells, Bad}
 
 pub spell-++ : (xs ys : List ℕ) → spell spell_cell (xs ++ ys) ≡ spell spell_cell xs ++ spell spell_cell ys

@@ -3,7 +3,7 @@ use Rattle.std.specs.Prelude.{◌≡◌, ℕ, ◌^◌, ◌<◌, ◌≤◌, ◌�
 use Rattle.terms.specs.Lists.{All}
 use Rattle.terms.specs.Terms.{Laid}
 use Rattle.terms.specs.Layout.{LayoutJudged}
-use Rattle.bytes.specs.Spelling.{spell, spell_cell, CellsRead}
+use Rattle.cell_bytes.specs.Spelling.{spell, spell_cell, CellsRead}
 use Rattle.single.specs.declared.verdict.Verdict.{Verdict}
 use Rattle.single.specs.declared.verdict.Verdict.TheVariants.{Term, Refused, Memory}
 

@@ -2,7 +2,7 @@
 ghost use Rattle.std.specs.Prelude.{◌≡◌, ◌<◌, length, drop};
 ghost use Rattle.single.specs.Verdicts.{TermJudged, CellsLeft};
 
-use bytes::read_cells;
+use cell_bytes::read_cells;
 use layout::{CELLS_MOST, Fault, Walk, layout};
 
 pub mod verdict;

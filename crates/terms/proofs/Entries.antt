@@ -1,5 +1,5 @@
 -- What is in a list stands at one of its numbers, and the other way round. Assumes nothing.
-use Rattle.std.proofs.Common.{◌≡◌, ℕ, zero, suc, ◌+◌, ◌<◌, List, [], ◌∷◌, ◌++◌, length, get_or, sym, refl, subst, inl, inr, arith}
+use Rattle.std.proofs.Common.{◌≡◌, ℕ, zero, suc, ◌<◌, List, [], ◌∷◌, ◌++◌, length, get_or, sym, refl, subst, inl, inr, arith}
 use Rattle.terms.specs.Lists.{In, All}
 
 pub in_at : (x : ℕ) (xs : List ℕ) → In x xs → (k : ℕ) × (k < length xs) × (x ≡ get_or xs k 0)

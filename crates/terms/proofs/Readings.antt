@@ -1,5 +1,5 @@
 -- The cells of trees that count their children read as these trees, and of any trees read they are the cells. Assumes nothing.
-use Rattle.std.proofs.Common.{◌≡◌, ℕ, zero, suc, ◌+◌, List, [], ◌∷◌, ◌++◌, sym, refl, ap, ◌∙◌, append_assoc, append-nil, arith}
+use Rattle.std.proofs.Common.{◌≡◌, ℕ, zero, suc, List, [], ◌∷◌, ◌++◌, sym, refl, ap, ◌∙◌, append_assoc, append-nil, arith}
 use Rattle.terms.specs.Cells.{children}
 use Rattle.terms.specs.Rows.{Row, flat, width, ◌&◌, Counted}
 use Rattle.terms.specs.Rows.Row.{none, node}

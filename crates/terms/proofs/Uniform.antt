@@ -1,5 +1,5 @@
 -- A sort whose children are of that sort again: counted trees are lawful exactly where it admits each of their cells.
-use Rattle.std.proofs.Common.{◌≡◌, ℕ, zero, suc, Bool, true, List, ◌++◌, replicate, sym, subst, arith}
+use Rattle.std.proofs.Common.{◌≡◌, ℕ, zero, suc, Bool, true, List, replicate, sym, subst, arith}
 use Rattle.terms.specs.Cells.{children}
 use Rattle.terms.specs.Lists.{All}
 use Rattle.terms.specs.Rows.{Row, flat, width, Counted}

@@ -1,8 +1,8 @@
 -- A term that keeps the layout has no wrong cell. Assumes nothing.
-use Rattle.std.proofs.Common.{◌≡◌, ℕ, zero, suc, ◌+◌, ◌-◌, ◌<◌, ◌≤◌, max, Bool, true, false, cond, eqb, ltb, ◌⊎◌, List, [], ◌∷◌, ◌++◌, length, get_or, take, Some, None, Option, sym, refl, ap, ◌∙◌, subst, inl, inr, ⊎_elim, append_assoc, append-nil, le_of_suc-le-suc, arith}
+use Rattle.std.proofs.Common.{◌≡◌, ℕ, zero, suc, ◌+◌, ◌-◌, ◌<◌, ◌≤◌, Bool, true, false, cond, eqb, ltb, List, [], ◌∷◌, ◌++◌, length, get_or, take, Some, None, Option, sym, refl, ap, ◌∙◌, subst, append_assoc, le_of_suc-le-suc, arith}
 use Rattle.std.proofs.lemmas.Bool.Decides.{nat_tests}
-use Rattle.terms.specs.Cells.{kind, binder, children, payload, loose, Variable, Fields}
-use Rattle.terms.specs.Lists.{In, All}
+use Rattle.terms.specs.Cells.{binder, children, payload, loose, Variable, Fields}
+use Rattle.terms.specs.Lists.{All}
 use Rattle.terms.specs.Rows.{Row, flat, width, depth, above, own, frees, Counted, Fielded}
 use Rattle.terms.specs.Rows.Row.{none, node}
 use Rattle.terms.specs.Terms.{Laid}

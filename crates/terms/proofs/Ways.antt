@@ -3,7 +3,7 @@ use Rattle.std.proofs.Common.{◌≡◌, ℕ, zero, suc, ◌+◌, ◌-◌, ◌<�
 use Rattle.std.proofs.lemmas.List.{drop_at, take_more, take_all}
 use Rattle.terms.specs.Cells.{children}
 use Rattle.terms.specs.Descents.{ChildAt}
-use Rattle.terms.specs.Rows.{Row, flat, size, width, ◌&◌, Counted, pick, Place, before, after}
+use Rattle.terms.specs.Rows.{Row, flat, size, width, ◌&◌, pick, Place, before, after}
 use Rattle.terms.specs.Rows.Row.{none, node}
 use Rattle.terms.specs.Standing.{Stands, Ends}
 use Rattle.terms.specs.Terms.{TreeOf}

@@ -1,5 +1,5 @@
 -- The facts on cells, trees and places together.
-use Rattle.std.proofs.Common.{◌≡◌, ℕ, List, [], ◌∷◌, ◌++◌, length, Ok, Err, Result, sym, refl, ap, ◌∙◌, append-nil}
+use Rattle.std.proofs.Common.{◌≡◌, ℕ, List, [], ◌++◌, length, Ok, Err, Result, sym, ap, ◌∙◌, append-nil}
 use Rattle.terms.specs.Rows.{Row, flat}
 use Rattle.terms.specs.Terms.{TreeOf}
 use Rattle.terms.specs.Layout.{LayoutJudged}

@@ -1,7 +1,7 @@
 -- A term with another term at a place: its tree, and what is free in it. Assumes nothing.
-use Rattle.std.proofs.Common.{◌≡◌, ℕ, zero, suc, ◌<◌, List, [], ◌∷◌, ◌++◌, sym, refl, ap, ◌∙◌, subst, inl, inr}
+use Rattle.std.proofs.Common.{ℕ, zero, suc, List, [], ◌∷◌, sym, refl, ◌∙◌, subst, inl, inr}
 use Rattle.terms.specs.Lists.{In, All}
-use Rattle.terms.specs.Rows.{Row, flat, frees, pick, put, Counted}
+use Rattle.terms.specs.Rows.{Row, frees, pick, put, Counted}
 use Rattle.terms.specs.Rows.Row.{none, node}
 use Rattle.terms.specs.Terms.{TreeOf, FreeIn}
 use Rattle.terms.specs.Places.{At, whole}

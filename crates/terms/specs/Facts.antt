@@ -1,7 +1,7 @@
 -- What holds of cells, trees and places, whatever the calculus.
-use Rattle.std.specs.Prelude.{◌≡◌, ℕ, ◌^◌, ◌<◌, ◌≤◌, List, [], ◌++◌, length, None, Result}
+use Rattle.std.specs.Prelude.{◌≡◌, ℕ, ◌^◌, ◌<◌, List, [], ◌++◌, length, None, Result}
 use Rattle.terms.specs.Lists.{All}
-use Rattle.terms.specs.Rows.{Row, flat, size, depth, pick, put}
+use Rattle.terms.specs.Rows.{Row, size, pick, put}
 use Rattle.terms.specs.Terms.{TreeOf, Deep, FreeIn, Laid}
 use Rattle.terms.specs.Places.{At, whole, Strays}
 use Rattle.terms.specs.Layout.{parents, Wrong, LayoutJudged}

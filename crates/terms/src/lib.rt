@@ -1,4 +1,6 @@
 // Terms in a table: cells of 64 bits, the trees that they mean, where a subterm ends and what lies at a place.
+#![tactic(auto)]
+
 ghost use Rattle.terms.specs.Facts.{TermFacts};
 
 pub mod cell;

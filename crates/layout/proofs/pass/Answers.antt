@@ -15,12 +15,12 @@ returns-then-children-eq0 c =
 pub enter-requires : goal.enter-requires
 enter-requires c =
     let h = c.requires.held in
-    let b = c.binders-above.ensures h.up h.high h.holds in
+    let b = c.binders_above.ensures h.up h.high h.holds in
     (omega arith, omega (arith, b, binders_le h.up))
 
 pub returns : goal.returns
 returns c =
     record {
-      follows = λ up e o. opened _ _ c.args.c _ up e (omega arith) (omega arith) (c.enter.ensures up (c.binders-above.ensures up e o)) o;
+      follows = λ up e o. opened _ _ c.args.c _ up e (omega arith) (omega arith) (c.enter.ensures up (c.binders_above.ensures up e o)) o;
       past = drop-set-lt (c.args.height + 1) c.args.walk.now c.args.height _ (omega arith);
     }

@@ -2,7 +2,7 @@ use Rattle.std.proofs.Common.{◌≡◌, ℕ, ◌-◌, ◌<◌, length, get_or, 
 use Rattle.terms.specs.Layout.{Kept}
 use Rattle.layout.specs.Answers.{Answered}
 use Rattle.layout.specs.declared.Fault.TheVariants.{Cell}
-use Rattle.bytes.specs.Spelling.{CellsRead}
+use Rattle.cell_bytes.specs.Spelling.{CellsRead}
 use Rattle.single.proofs.Spelling.{count_is, whole_spelt, part_left, first_wrong}
 use Rattle.single.proofs.judge.Goals as goal
 
@@ -11,7 +11,7 @@ returns-in-Ok c =
     let bytes = c.args.bytes.now in
     let new = c.read-cells-n.new.cells in
     let n = c.read-cells-n.result in
-    let fit : (i : ℕ) → get_or bytes i 0 < 256 = λ i. omega (arith, c.type-inv.bytes i) in
+    let fit : (i : ℕ) → get_or bytes i 0 < 256 = λ i. omega (arith, c.type_inv.bytes i) in
     let z : n - 0 ≡ n = omega arith in
     let k : Kept (take n new) c.in-Ok.count c.in-Ok.depth = subst (λ m. Kept (take m new) c.in-Ok.count c.in-Ok.depth) z c.in-Ok.ensures.answer.1 in
     let count = count_is bytes _ new n c.read-cells-n.ensures fit (omega arith) c.read-cells-n.auto.cells in
@@ -27,7 +27,7 @@ returns-in-Ok-2 c =
     let bytes = c.args.bytes.now in
     let new = c.read-cells-n.new.cells in
     let n = c.read-cells-n.result in
-    let fit : (i : ℕ) → get_or bytes i 0 < 256 = λ i. omega (arith, c.type-inv.bytes i) in
+    let fit : (i : ℕ) → get_or bytes i 0 < 256 = λ i. omega (arith, c.type_inv.bytes i) in
     let z : n - 0 ≡ n = omega arith in
     let k : Kept (take n new) c.in-Ok-2.field-0.0 c.in-Ok-2.field-0.1 = subst (λ m. Kept (take m new) c.in-Ok-2.field-0.0 c.in-Ok-2.field-0.1) z c.in-Ok-2.ensures.answer.1 in
     record {
@@ -43,7 +43,7 @@ returns-in-Cell c =
     let new = c.read-cells-n.new.cells in
     let n = c.read-cells-n.result in
     let w = length c.args.walk.now in
-    let fit : (i : ℕ) → get_or bytes i 0 < 256 = λ i. omega (arith, c.type-inv.bytes i) in
+    let fit : (i : ℕ) → get_or bytes i 0 < 256 = λ i. omega (arith, c.type_inv.bytes i) in
     let z : n - 0 ≡ n = omega arith in
     let a : Answered w (take n new) (Err (Cell c.in-Cell.place)) =
     subst (λ f. Answered w (take n new) (Err f)) c.in-Cell.is (subst (λ m. Answered w (take m new) (Err c.in-Err.fault)) z c.in-Err.ensures.answer) in

@@ -14,8 +14,8 @@ returns-then-n-eq0 t c =
       wrote = λ u s. ap (λ v. over c.args.out.now c.args.to (flat (rename (renamed c.args.how) c.args.d c.args.b v))) (sym (empty u (s.wide ∙ c.if-n-eq0.true)));
     }
 
-pub offset-bounds-cells-at : goal.offset-bounds-cells-at
-offset-bounds-cells-at t c = let b = begun c.requires.row c.if-n-eq0.false in omega arith
+pub offset_bounds-cells-at : goal.offset_bounds-cells-at
+offset_bounds-cells-at t c = let b = begun c.requires.row c.if-n-eq0.false in omega arith
 
 pub bounds-cells-at : goal.bounds-cells-at
 bounds-cells-at t c = (begun c.requires.row c.if-n-eq0.false).within
@@ -23,30 +23,30 @@ bounds-cells-at t c = (begun c.requires.row c.if-n-eq0.false).within
 pub bounds-out-to : goal.bounds-out-to
 bounds-out-to t c = let b = begun c.requires.row c.if-n-eq0.false in omega arith
 
-pub overflow-add-at : goal.overflow-add-at
-overflow-add-at t c = let b = begun c.requires.row c.if-n-eq0.false in omega arith
+pub overflow_add-at : goal.overflow_add-at
+overflow_add-at t c = let b = begun c.requires.row c.if-n-eq0.false in omega arith
 
-pub rename-row-next-requires : goal.rename-row-next-requires
-rename-row-next-requires t c =
+pub rename_row-next-requires : goal.rename_row-next-requires
+rename_row-next-requires t c =
     let b = begun c.requires.row c.if-n-eq0.false in
     let l = length-set c.args.out.now c.args.to c.renumber.result in
-    (omega arith, (moved_fit b.first c.children.ensures refl (omega arith), (omega arith, (omega (arith, first_most c.args.n c.args.d c.args.b c.binders-above-under.result c.binders-above-under.ensures), c.requires.mild))))
+    (omega arith, (moved_fit b.first c.children.ensures refl (omega arith), (omega arith, (omega (arith, first_most c.args.n c.args.d c.args.b c.binders_above-under.result c.binders_above-under.ensures), c.requires.mild))))
 
-pub overflow-sub-next : goal.overflow-sub-next
-overflow-sub-next t c =
+pub overflow_sub-next : goal.overflow_sub-next
+overflow_sub-next t c =
     let b = begun c.requires.row c.if-n-eq0.false in
-    omega (arith, c.rename-row-next.ensures.end b.ks (moved b.here c.children.ensures refl))
+    omega (arith, c.rename_row-next.ensures.end b.ks (moved b.here c.children.ensures refl))
 
-pub overflow-add-to-2 : goal.overflow-add-to-2
-overflow-add-to-2 t c =
+pub overflow_add-to-2 : goal.overflow_add-to-2
+overflow_add-to-2 t c =
     let b = begun c.requires.row c.if-n-eq0.false in
-    omega (arith, c.rename-row-next.ensures.end b.ks (moved b.here c.children.ensures refl))
+    omega (arith, c.rename_row-next.ensures.end b.ks (moved b.here c.children.ensures refl))
 
-pub rename-row-requires : goal.rename-row-requires
-rename-row-requires t c =
+pub rename_row-requires : goal.rename_row-requires
+rename_row-requires t c =
     let b = begun c.requires.row c.if-n-eq0.false in
     let l = length-set c.args.out.now c.args.to c.renumber.result in
-    let p = c.rename-row-next.ensures.end b.ks (moved b.here c.children.ensures refl) in
+    let p = c.rename_row-next.ensures.end b.ks (moved b.here c.children.ensures refl) in
     (omega arith, (moved_fit b.others refl p (omega arith), (omega arith, (omega arith, c.requires.mild))))
 
 pub returns : goal.returns
@@ -54,12 +54,12 @@ returns t c =
     record {
       end = λ u s.
           let o = opened u s c.if-n-eq0.false in
-          let p = c.rename-row-next.ensures.end o.ks (moved o.first c.children.ensures refl) in
-          omega (arith, c.rename-row.ensures.end o.r (moved o.others refl p));
+          let p = c.rename_row-next.ensures.end o.ks (moved o.first c.children.ensures refl) in
+          omega (arith, c.rename_row.ensures.end o.r (moved o.others refl p));
       wrote = λ u s.
           let o = opened u s c.if-n-eq0.false in
           let f = moved o.first c.children.ensures refl in
-          let p = c.rename-row-next.ensures.end o.ks f in
-          let under = first_is o c.args.d c.args.b c.binders-above-under.result c.if-n-eq0.false c.binders-above-under.ensures in
-          wrote_row o (renamed c.args.how) c.args.d c.args.b _ _ _ c.args.to _ c.args.out.now _ _ under c.renumber.ensures c.binder.ensures (c.rename-row-next.ensures.wrote o.ks f) (c.rename-row.ensures.wrote o.r (moved o.others refl p)) (omega arith);
+          let p = c.rename_row-next.ensures.end o.ks f in
+          let under = first_is o c.args.d c.args.b c.binders_above-under.result c.if-n-eq0.false c.binders_above-under.ensures in
+          wrote_row o (renamed c.args.how) c.args.d c.args.b _ _ _ c.args.to _ c.args.out.now _ _ under c.renumber.ensures c.binder.ensures (c.rename_row-next.ensures.wrote o.ks f) (c.rename_row.ensures.wrote o.r (moved o.others refl p)) (omega arith);
     }

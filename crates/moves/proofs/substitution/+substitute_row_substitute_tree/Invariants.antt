@@ -1,8 +1,8 @@
 use Rattle.std.proofs.Common.{◌+◌, ◌-◌, ◌*◌, length}
 use Rattle.moves.proofs.substitution.+substitute_row_substitute_tree.Given as goal
 
-abbrev pub decreases-substitute-row : goal.decreases-substitute-row
-decreases-substitute-row l = 2 * (length l.cells.now - l.at) + 1
+abbrev pub decreases-substitute_row : goal.decreases-substitute_row
+decreases-substitute_row l = 2 * (length l.cells.now - l.at) + 1
 
-abbrev pub decreases-substitute-tree : goal.decreases-substitute-tree
-decreases-substitute-tree l = 2 * (length l.cells.now - l.at)
+abbrev pub decreases-substitute_tree : goal.decreases-substitute_tree
+decreases-substitute_tree l = 2 * (length l.cells.now - l.at)

@@ -4,14 +4,14 @@ use Rattle.terms.proofs.Steps.{moved, stands_none, size_within}
 use Rattle.terms.proofs.Skips.{Carries, carries_more, width_size}
 use Rattle.terms.proofs.extent.skip.Goals as goal
 
-pub returns-then-due-saturating-sub : goal.returns-then-due-saturating-sub
-returns-then-due-saturating-sub c = λ t s.
+pub returns-then-due-saturating_sub : goal.returns-then-due-saturating_sub
+returns-then-due-saturating_sub c = λ t s.
     let b = c.loop-due.invariant.forth t s in
     omega (arith, size_within b.1, width_size b.0, b.1.wide)
 
 pub loop-due-preserved : goal.loop-due-preserved
 loop-due-preserved c =
-    subst (λ k. Carries c.args.n c.args.at (c.loop-due.due - 1 + k) (c.loop-due.end + 1) c.args.cells.now) (sym c.children.ensures) (carries_more _ _ _ _ c.args.cells.now c.loop-due.invariant (omega arith) (omega arith) (omega (arith, c.type-inv.cells c.loop-due.end)))
+    subst (λ k. Carries c.args.n c.args.at (c.loop-due.due - 1 + k) (c.loop-due.end + 1) c.args.cells.now) (sym c.children.ensures) (carries_more _ _ _ _ c.args.cells.now c.loop-due.invariant (omega arith) (omega arith) (omega (arith, c.type_inv.cells c.loop-due.end)))
 
 pub returns : goal.returns
 returns c =

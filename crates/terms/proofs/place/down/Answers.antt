@@ -1,4 +1,4 @@
-use Rattle.std.proofs.Common.{◌≡◌, length, sym, subst, arith}
+use Rattle.std.proofs.Common.{◌≡◌, length, subst, arith}
 use Rattle.terms.proofs.Ways.{Come, come_none, come_all, further, strays}
 use Rattle.terms.proofs.place.down.Goals as goal
 

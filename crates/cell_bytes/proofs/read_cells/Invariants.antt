@@ -1,7 +1,7 @@
 use Rattle.std.proofs.Common.{◌≡◌, ◌*◌, ◌^◌, ◌<◌, take, drop}
 use Rattle.terms.specs.Lists.{All}
-use Rattle.bytes.specs.Spelling.{spell, spell_cell}
-use Rattle.bytes.proofs.read_cells.Given as goal
+use Rattle.cell_bytes.specs.Spelling.{spell, spell_cell}
+use Rattle.cell_bytes.proofs.read_cells.Given as goal
 
 abbrev pub invariant-loop-i : goal.invariant-loop-i
 invariant-loop-i l =

@@ -1,7 +1,7 @@
 // Cells in bytes: eight bytes a cell, most significant first.
 ghost use Rattle.std.specs.Prelude.{◌≡◌, ◌+◌, ◌/◌, ◌≤◌, length, take, drop};
-ghost use Rattle.bytes.specs.Holding.{CellsMeasured};
-ghost use Rattle.bytes.specs.Spelling.{spell_cell, CellsRead};
+ghost use Rattle.cell_bytes.specs.Holding.{CellsMeasured};
+ghost use Rattle.cell_bytes.specs.Spelling.{spell_cell, CellsRead};
 
 // The cell that eight bytes spell.
 pub fn cell_at(bytes: &[u8], at: usize) -> u64

@@ -2,7 +2,7 @@
 use Rattle.std.proofs.Common.{◌≡◌, ℕ, zero, suc, ◌+◌, ◌*◌, ◌/◌, ◌%◌, ◌^◌, ◌<◌, ◌≤◌, List, [], ◌∷◌, ◌++◌, length, get_or, take, drop, sym, refl, ap, ◌∙◌, append_assoc, append-nil, arith}
 use Rattle.std.proofs.lemmas.List.{drop_more}
 use Rattle.terms.specs.Lists.{All}
-use Rattle.bytes.specs.Spelling.{spell_cell, spell}
+use Rattle.cell_bytes.specs.Spelling.{spell_cell, spell}
 
 -- the number that eight digits in base 256 make
 abbrev pub word : (a b c d e f g h : ℕ) → ℕ

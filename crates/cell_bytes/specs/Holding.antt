@@ -1,7 +1,7 @@
 -- What bytes hold exactly, and the first byte that is lacking or left over where they do not.
 use Rattle.std.specs.Prelude.{◌≡◌, ℕ, ◌^◌, ◌<◌, ◌⊎◌, List, [], ◌∷◌, ◌++◌, length, Some, None, Option}
 use Rattle.terms.specs.Lists.{All}
-use Rattle.bytes.specs.Spelling.{spell_cell, spell}
+use Rattle.cell_bytes.specs.Spelling.{spell_cell, spell}
 
 -- The bytes hold exactly what is so and spelt so.
 pub record Holds {A : Type 0} (P : A → Type 0) (f : A → List ℕ) (bytes : List ℕ) (x : A) : Type 0 where

@@ -1,8 +1,8 @@
 -- Bytes are read in one way, and one byte is told. Assumes nothing.
 use Rattle.std.proofs.Common.{◌≡◌, ℕ, zero, suc, ◌+◌, ◌*◌, ◌/◌, ◌%◌, ◌^◌, ◌<◌, ◌≤◌, ◌⊎◌, List, [], ◌∷◌, ◌++◌, length, sym, refl, ap, ◌∙◌, subst, inl, inr, append_assoc, append-nil, arith}
 use Rattle.terms.specs.Lists.{All}
-use Rattle.bytes.specs.Spelling.{spell_cell, spell}
-use Rattle.bytes.specs.Holding.{Holds, Lacking, LeftOver, Amiss, Cell, Cells}
+use Rattle.cell_bytes.specs.Spelling.{spell_cell, spell}
+use Rattle.cell_bytes.specs.Holding.{Holds, Lacking, LeftOver, Amiss, Cell, Cells}
 
 -- what is spelt ends by itself
 abbrev pub Delimited : {A : Type 0} → (A → Type 0) → (A → List ℕ) → Type 0

@@ -2,9 +2,9 @@
 use Rattle.std.proofs.Common.{◌≡◌, ℕ, zero, suc, ◌+◌, ◌-◌, ◌*◌, ◌^◌, ◌<◌, ◌≤◌, min, List, [], ◌∷◌, ◌++◌, length, get_or, take, drop, replicate, sym, refl, ap, ◌∙◌, subst, arith, length-append, length-drop, take-append-drop, length-take}
 use lib.ListN.{length-replicate}
 use Rattle.std.proofs.lemmas.List.{drop_more, get_or-drop, get_or-take, get_or_past}
-use Rattle.bytes.specs.Spelling.{spell_cell, spell}
-use Rattle.bytes.specs.Holding.{Holds, Lacking, LeftOver, Cells}
-use Rattle.bytes.proofs.Words.{word, spell_word, eight}
+use Rattle.cell_bytes.specs.Spelling.{spell_cell, spell}
+use Rattle.cell_bytes.specs.Holding.{Holds, Lacking, LeftOver, Cells}
+use Rattle.cell_bytes.proofs.Words.{word, spell_word, eight}
 
 -- every entry is a byte
 abbrev pub Bytes : List ℕ → Type 0
