@@ -2,8 +2,8 @@ use Rattle.std.proofs.Common.{◌≡◌, ℕ, ◌*◌, ◌<◌, length, get_or, 
 use Rattle.cell_bytes.proofs.Fills.{Bytes, filled, cells_lack, cells_over}
 use Rattle.cell_bytes.proofs.cells_amiss.Goals as goal
 
-pub returns-then-whole-cells-count : goal.returns-then-whole-cells-count
-returns-then-whole-cells-count c =
+pub returns-then-whole_cells-count : goal.returns-then-whole_cells-count
+returns-then-whole_cells-count c =
     let l = c.args.bytes.now in
     let fit : Bytes l = λ k. omega (arith, c.type_inv.bytes k) in
     let few : length l < 8 * c.args.count = omega arith in

@@ -9,4 +9,4 @@ returns-in-Moved c =
     let s = subst (Sound c.args.cells.now) c.in-Moved.is c.requires.sound in
     let t = s.0.tree in
     let e = stands_moved t 1 c.args.cells.now _ _ c.in-Moved.how s.0.stands s.0.ends in
-    c.rename-row-end.ensures.wrote t s.0.stands ∙ ap (over c.args.space.now c.args.to) (sym e ∙ ap (shown c.args.cells.now) (sym c.in-Moved.is))
+    c.rename_row-end.ensures.wrote t s.0.stands ∙ ap (over c.args.space.now c.args.to) (sym e ∙ ap (shown c.args.cells.now) (sym c.in-Moved.is))

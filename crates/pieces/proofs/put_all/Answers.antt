@@ -11,8 +11,8 @@ put-requires c =
       fits = omega arith;
     }
 
-pub overflow-add-to : goal.overflow-add-to
-overflow-add-to c =
+pub overflow_add-to : goal.overflow_add-to
+overflow_add-to c =
     let e = extent_more c.args.pieces.now c.loop-piece.piece-index (Cell 0) c.loop-piece-test.true in
     omega arith
 

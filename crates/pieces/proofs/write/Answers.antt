@@ -4,14 +4,14 @@ use Rattle.moves.proofs.Overs.{over_front}
 use Rattle.pieces.proofs.Shows.{shown_extents}
 use Rattle.pieces.proofs.write.Goals as goal
 
-pub returns-in-err-n : goal.returns-in-err-n
-returns-in-err-n c =
+pub returns-in_err-n : goal.returns-in_err-n
+returns-in_err-n c =
     let e = shown_extents c.args.cells.now c.args.pieces.now c.requires in
-    let h = c.in-err-n.ensures in
-    rw c.from-residual.ensures (omega arith, refl)
+    let h = c.in_err-n.ensures in
+    rw c.from_residual.ensures (omega arith, refl)
 
 pub returns : goal.returns
 returns c =
     let e = shown_extents c.args.cells.now c.args.pieces.now c.requires in
-    let h = c.in-ok-n.ensures in
-    (omega arith, omega arith, c.put-all.ensures ∙ over_front c.args.space.now (shown_all c.args.cells.now c.args.pieces.now) c.in-ok-n.n (omega arith) (omega arith))
+    let h = c.in_ok-n.ensures in
+    (omega arith, omega arith, c.put_all.ensures ∙ over_front c.args.space.now (shown_all c.args.cells.now c.args.pieces.now) c.in_ok-n.n (omega arith) (omega arith))

@@ -13,23 +13,23 @@ over_is t c = elim c.if-i-n.branch [ then-i-n w ↦ inl (omega arith, w.over-is)
 within : (t : ℕ) (c : goal.In-loop-i t) → (c.args.at ≤ c.loop-i.end) × (c.loop-i.end < length c.args.cells.now)
 within t c = let q = c.requires.row in passed_within _ _ _ _ _ _ _ _ _ (c.loop-i.invariant q.0 q.1) (omega arith)
 
-pub offset-bounds-cells-end : goal.offset-bounds-cells-end
-offset-bounds-cells-end t c = let w = within t c in omega arith
+pub offset_bounds-cells-end : goal.offset_bounds-cells-end
+offset_bounds-cells-end t c = let w = within t c in omega arith
 
 pub bounds-cells-end : goal.bounds-cells-end
 bounds-cells-end t c = (within t (goal.at.bounds-cells-end t c).In-loop-i).1
 
-pub is-large-requires : goal.is-large-requires
-is-large-requires t c =
-    let w = within t (goal.at.is-large-requires t c).In-loop-i in
-    elim c.if-i-n.branch [ then-i-n v ↦ omega (arith, v.over_is) | else-i-n v ↦ omega (arith, v.over_is) ]
+pub is_large-requires : goal.is_large-requires
+is_large-requires t c =
+    let w = within t (goal.at.is_large-requires t c).In-loop-i in
+    elim c.if-i-n.branch [ then-i-n v ↦ omega (arith, v.over-is) | else-i-n v ↦ omega (arith, v.over-is) ]
 
-pub returns-then-is-large : goal.returns-then-is-large
-returns-then-is-large t c = λ u s.
-    own_large _ _ _ _ _ _ _ _ u (c.loop-i.invariant u s) (omega arith) _ (over_is t (goal.at.returns-then-is-large t c).Joined-i-n) (c.is-large.ensures.0 c.if-is-large.true)
+pub returns-then-is_large : goal.returns-then-is_large
+returns-then-is_large t c = λ u s.
+    own_large _ _ _ _ _ _ _ _ u (c.loop-i.invariant u s) (omega arith) _ (over_is t (goal.at.returns-then-is_large t c).Joined-i-n) (c.is_large.ensures.0 c.if-is_large.true)
 
-pub overflow-add-end : goal.overflow-add-end
-overflow-add-end t c = let w = within t (goal.at.overflow-add-end t c).In-loop-i in omega arith
+pub overflow_add-end : goal.overflow_add-end
+overflow_add-end t c = let w = within t (goal.at.overflow_add-end t c).In-loop-i in omega arith
 
 pub bounded-requires : goal.bounded-requires
 bounded-requires t c =
@@ -37,17 +37,17 @@ bounded-requires t c =
     let q = c.requires.row in
     let k = kids_stand _ _ _ _ _ _ _ _ q.0 (c.loop-i.invariant q.0 q.1) (omega arith) _ (over_is t (goal.at.bounded-requires t c).Joined-i-n) _ _ c.children.ensures c.binder.ensures in
     let few : c.if-i-n.over + c.binder.result ≤ c.loop-i.end + 1 =
-    elim c.if-i-n.branch [ then-i-n v ↦ omega (arith, v.over_is) | else-i-n v ↦ omega (arith, v.over_is) ] in
+    elim c.if-i-n.branch [ then-i-n v ↦ omega (arith, v.over-is) | else-i-n v ↦ omega (arith, v.over-is) ] in
     (omega arith, ((_, k), (few, omega arith)))
 
-pub returns-in-err-end : goal.returns-in-err-end
-returns-in-err-end t c =
-    subst (Bounded c.args.bound c.args.above c.args.more c.args.n c.args.cells.now c.args.at) (sym c.from-residual.ensures) (λ u s.
-    kids_large _ _ _ _ _ _ _ _ u (c.loop-i.invariant u s) (omega arith) _ (over_is t (goal.at.returns-in-err-end t c).Joined-i-n) _ _ c.children.ensures c.binder.ensures c.in-err-end.ensures)
+pub returns-in_err-end : goal.returns-in_err-end
+returns-in_err-end t c =
+    subst (Bounded c.args.bound c.args.above c.args.more c.args.n c.args.cells.now c.args.at) (sym c.from_residual.ensures) (λ u s.
+    kids_large _ _ _ _ _ _ _ _ u (c.loop-i.invariant u s) (omega arith) _ (over_is t (goal.at.returns-in_err-end t c).Joined-i-n) _ _ c.children.ensures c.binder.ensures c.in_err-end.ensures)
 
 pub loop-i-preserved : goal.loop-i-preserved
 loop-i-preserved t c = λ u s.
-    passed_more _ _ _ _ _ _ _ _ u (c.loop-i.invariant u s) (omega arith) _ (over_is t (goal.at.loop-i-preserved t c).Joined-i-n) _ _ c.children.ensures c.binder.ensures _ (not_from_Decides _ c.is-large.ensures c.if-is-large.false) c.in-ok-end.ensures
+    passed_more _ _ _ _ _ _ _ _ u (c.loop-i.invariant u s) (omega arith) _ (over_is t (goal.at.loop-i-preserved t c).Joined-i-n) _ _ c.children.ensures c.binder.ensures _ (not_from_Decides _ c.is_large.ensures c.if-is_large.false) c.in_ok-end.ensures
 
 pub returns : goal.returns
 returns t c = λ u s. passed_all _ _ _ _ _ _ _ _ u (c.loop-i.invariant u s) (omega arith)

@@ -5,9 +5,9 @@ use Rattle.lets.specs.Syntax.{admits}
 use Rattle.lets.specs.Syntax.Sort.{pattern}
 use Rattle.lets.proofs.program.are_pattern_cells.Goals as goal
 
-pub returns-then-not-is-pattern-cell : goal.returns-then-not-is-pattern-cell
-returns-then-not-is-pattern-cell c = fails (λ a.
-    let e = c.if-not-is-pattern-cell.ensures ∙ each_all (λ c. admits pattern c ≡ true) c.args.cells.now c.loop-c.c-index a (omega arith) in
+pub returns-then-not-is_pattern_cell : goal.returns-then-not-is_pattern_cell
+returns-then-not-is_pattern_cell c = fails (λ a.
+    let e = c.if-not-is_pattern_cell.ensures ∙ each_all (λ c. admits pattern c ≡ true) c.args.cells.now c.loop-c.c-index a (omega arith) in
     let z : ◌≡◌ {A = ℕ} 0 1 = cc e in
     omega arith)
 

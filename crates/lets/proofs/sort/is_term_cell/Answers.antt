@@ -2,14 +2,14 @@ use Rattle.std.proofs.Common.{rules}
 use Rattle.lets.specs.Syntax.{admits}
 use Rattle.lets.proofs.sort.is_term_cell.Goals as goal
 
-pub returns-then-is-symbol : goal.returns-then-is-symbol
+pub returns-then-is_symbol : goal.returns-then-is_symbol
 unfolding admits
-returns-then-is-symbol c = search rules
+returns-then-is_symbol c = search rules
 
-pub returns-then-has-form : goal.returns-then-has-form
+pub returns-then-has_form : goal.returns-then-has_form
 unfolding admits
-returns-then-has-form c = search rules
+returns-then-has_form c = search rules
 
-pub returns-else-has-form : goal.returns-else-has-form
+pub returns-else-has_form : goal.returns-else-has_form
 unfolding admits
-returns-else-has-form c = search rules
+returns-else-has_form c = search rules

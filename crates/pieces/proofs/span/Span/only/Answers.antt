@@ -4,5 +4,5 @@ use Rattle.pieces.proofs.span.Span.only.Goals as goal
 
 pub returns : goal.returns
 returns c = λ t l.
-    let x = by_name t _ c.args.cell (c.in-ok-top.ensures.reads t l) c.if-branch-cell.false in
+    let x = by_name t _ c.args.cell (c.in_ok-top.ensures.reads t l) c.if-branch-cell.false in
     single t c.args.cells.now c.args.self c.args.cell l x c.requires _ refl refl
