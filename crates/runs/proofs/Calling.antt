@@ -1,5 +1,6 @@
 -- From what a run does in its turn to what its calls answer and leave. Assumes nothing.
 use Rattle.std.proofs.Common.{◌≡◌, ℕ, ◌+◌, ◌≤◌, min, List, [], ◌∷◌, ◌++◌, length, take, replicate, Ok, Err, sym, refl, ap, ◌∙◌, subst, inl, lit≤}
+use Rattle.calculus.specs.declared.Calculus.{Ghosts}
 use Rattle.layout.specs.declared.Walk.{Walk}
 use Rattle.calculus.specs.Meaning.{Meaning}
 use Rattle.runs.specs.Questions.{AllYes, FirstNo}
@@ -41,14 +42,14 @@ module _ (scratch scratch' : List ℕ) (walk walk' : List Walk) where
   accepted_zeros : (a : Answer) → (IsRefused a → ⊥) → scratch' ≡ replicate (length scratch) 0 → Cleared (a ≡ Refused no.Memory) scratch scratch' walk walk'
   accepted_zeros a p z = record { zeros = λ _. z; stays = λ e. absurd (p (subst IsRefused (sym e) tt)) }
 
-module _ {C : Type 0} (m : Meaning) (run run' : Run C) where
+module _ {C : Type 0} {G : Ghosts C} (m : Meaning) (run run' : Run C G) where
   -- a refused call leaves the run
   refused_called : (table : List ℕ) (e : Event) (r : Refusal) → run' ≡ run → FirstNo (questions m (chain_of run table) (held m (chain_of run table) ∷ []) e) r → Called m run run' table table e (Refused r)
   refused_called table e r same n =
       record {
-        calculus = ap (λ (x : Run C). x.calculus) same;
-        turn = refused r n refl (ap (λ (x : Run C). chain_of x table) same);
-        refused = λ _ _. ap (λ (x : Run C). x.cells) same;
+        calculus = ap (λ (x : Run C G). x.calculus) same;
+        turn = refused r n refl (ap (λ (x : Run C G). chain_of x table) same);
+        refused = λ _ _. ap (λ (x : Run C G). x.cells) same;
         table_is = refl;
       }
 
@@ -107,14 +108,14 @@ module _ {C : Type 0} (m : Meaning) (run run' : Run C) where
       }
 
 -- what a run's turn says of a call, if its table holds these cells
-abbrev Yes : {C : Type 0} → Meaning → Run C → List ℕ → (Lent → Event) → Type 0
+abbrev Yes : {C : Type 0} {G : Ghosts C} → Meaning → Run C G → List ℕ → (Lent → Event) → Type 0
 Yes m run end e = (lent : Lent) → Enough lent → AllYes (questions m (chain_at run end) (held m (chain_at run end) ∷ []) (e lent))
 
-abbrev No : {C : Type 0} → Meaning → Run C → List ℕ → (Lent → Event) → Refusal → Type 0
+abbrev No : {C : Type 0} {G : Ghosts C} → Meaning → Run C G → List ℕ → (Lent → Event) → Refusal → Type 0
 No m run end e r = (lent : Lent) → Enough lent → FirstNo (questions m (chain_at run end) (held m (chain_at run end) ∷ []) (e lent)) r
 
 -- a call that is handed too little is refused by 1
-module _ {C : Type 0} (m : Meaning) (run : Run C) (table scratch : List ℕ) (walk : List Walk) (little : Enough (lent_of table scratch walk) → ⊥) where
+module _ {C : Type 0} {G : Ghosts C} (m : Meaning) (run : Run C G) (table scratch : List ℕ) (walk : List Walk) (little : Enough (lent_of table scratch walk) → ⊥) where
   pub open_at_1 : (start : List ℕ) → OpenAsked m run run start table table scratch scratch walk walk (Err no.Memory)
   open_at_1 start =
       record { called = refused_called m run run table (opening start (lent_of table scratch walk)) no.Memory refl (inl (little, refl)); cleared = at_1 scratch scratch walk walk (Refused no.Memory) refl }
@@ -128,7 +129,7 @@ module _ {C : Type 0} (m : Meaning) (run : Run C) (table scratch : List ℕ) (wa
       record { called = refused_called m run run table (settling ticket.number claim (lent_of table scratch walk)) no.Memory refl (inl (little, refl)); cleared = at_1 scratch scratch walk walk (Refused no.Memory) refl; ticket_back = refl }
 
 -- a call that is handed enough
-module _ {C : Type 0} (m : Meaning) (run run' : Run C) (table scratch scratch' : List ℕ) (walk walk' : List Walk) (enough : Enough (lent_of table scratch walk)) (z : scratch' ≡ replicate (length scratch) 0) where
+module _ {C : Type 0} {G : Ghosts C} (m : Meaning) (run run' : Run C G) (table scratch scratch' : List ℕ) (walk walk' : List Walk) (enough : Enough (lent_of table scratch walk)) (z : scratch' ≡ replicate (length scratch) 0) where
   abbrev lent : Lent
   lent = lent_of table scratch walk
 
@@ -183,7 +184,7 @@ any = record { table = 2048; scratch = 2048; walk = 256 }
 any_enough : Enough any
 any_enough = record { table = lit≤ tt; scratch = lit≤ tt; walk = lit≤ tt }
 
-module _ {C : Type 0} (m : Meaning) (run run' : Run C) (ticket : Ticket) where
+module _ {C : Type 0} {G : Ghosts C} (m : Meaning) (run run' : Run C G) (ticket : Ticket) where
   pub withdraw_refused : (r : Refusal) → No m run [] (λ _. withdrawing ticket.number) r → run' ≡ run → WithdrawAsked m run run' ticket (Err (r, ticket))
   withdraw_refused r n same =
       record { called = λ table. refused_called m run run' table (withdrawing ticket.number) r same (n any any_enough); ticket_back = refl }

@@ -1,5 +1,6 @@
 -- A call that is handed the front of a table does to the whole table what it does to the front. Assumes nothing.
 use Rattle.std.proofs.Common.{◌≡◌, ℕ, ◌+◌, ◌-◌, ◌<◌, ◌≤◌, min, ◌⊎◌, List, [], ◌∷◌, ◌++◌, length, take, drop, replicate, sym, refl, ap, ◌∙◌, subst, inl, inr, append_assoc, arith, length-append}
+use Rattle.calculus.specs.declared.Calculus.{Ghosts}
 use lib.ListN.{length-replicate}
 use Rattle.std.proofs.lemmas.List.{take-append-drop, take-take, take-append-le, drop-append-le, length-take-le}
 use Rattle.std.proofs.lemmas.Bool.{cases_lt}
@@ -40,7 +41,7 @@ module _ (m : Meaning) (lent : Lent) where
   settling_first ticket claim =
       record { yes = λ c y. y.0; tells = λ c r little n. tell lent r little n; refuses = λ c little. inl (little, refl) }
 
-module _ {C : Type 0} (m : Meaning) (run run' : Run C) (table part : List ℕ) (t : ℕ) (within : t ≤ length table) (long : length part ≡ t) (e : Event) (lent : Lent) (t-is : lent.table ≡ t) (first : First m e lent) (a : Answer) (c : Called m run run' (take t table) part e a) where
+module _ {C : Type 0} {G : Ghosts C} (m : Meaning) (run run' : Run C G) (table part : List ℕ) (t : ℕ) (within : t ≤ length table) (long : length part ≡ t) (e : Event) (lent : Lent) (t-is : lent.table ≡ t) (first : First m e lent) (a : Answer) (c : Called m run run' (take t table) part e a) where
   abbrev all : List ℕ
   all = part ++ drop t table
 
@@ -99,7 +100,7 @@ module _ {C : Type 0} (m : Meaning) (run run' : Run C) (table part : List ℕ) (
   widen = elim (cases_lt t 2048) [ inl h ↦ narrow_by (λ n. omega (arith, n.table, t-is, h)) c.turn | inr h ↦ wide h ]
 
 -- the run's cells stay within the table: an accepted call was handed 2,048 cells of it
-module _ {C : Type 0} (m : Meaning) (run run' : Run C) (table table' : List ℕ) (e : Event) (lent : Lent) (first : First m e lent) (a : Answer) (c : Called m run run' table table' e a) where
+module _ {C : Type 0} {G : Ghosts C} (m : Meaning) (run run' : Run C G) (table table' : List ℕ) (e : Event) (lent : Lent) (first : First m e lent) (a : Answer) (c : Called m run run' table table' e a) where
   cells_by : TurnBy m (held m (chain_of run table) ∷ []) (chain_of run table) e a (chain_of run' table') → lent.table ≤ length table → run.cells ≤ length table → run'.cells ≤ length table
   cells_by (accepted y p) l h = omega (arith, (first.yes (chain_of run table) y).table, run'.few)
   cells_by (refused r f g k) l h = omega (arith, c.refused r g)
@@ -108,7 +109,7 @@ module _ {C : Type 0} (m : Meaning) (run run' : Run C) (table table' : List ℕ)
   cells_fit = cells_by c.turn
 
 -- A call over the memory that it is handed: so many cells and records from the front.
-module _ {C : Type 0} (m : Meaning) (run run' : Run C) (table part scratch : List ℕ) (walk : List Walk) (lent : Lent) (t s w : ℕ) (t-is : t ≡ min lent.table (length table)) (s-is : s ≡ min lent.scratch (length scratch)) (w-is : w ≡ min lent.walk (length walk)) (long : length part ≡ length (take t table)) (call : Lent → Event) (first : (l : Lent) → First m (call l) l) (a : Answer) (c : Called m run run' (take t table) part (call (lent_of (take t table) (take s scratch) (take w walk))) a) where
+module _ {C : Type 0} {G : Ghosts C} (m : Meaning) (run run' : Run C G) (table part scratch : List ℕ) (walk : List Walk) (lent : Lent) (t s w : ℕ) (t-is : t ≡ min lent.table (length table)) (s-is : s ≡ min lent.scratch (length scratch)) (w-is : w ≡ min lent.walk (length walk)) (long : length part ≡ length (take t table)) (call : Lent → Event) (first : (l : Lent) → First m (call l) l) (a : Answer) (c : Called m run run' (take t table) part (call (lent_of (take t table) (take s scratch) (take w walk))) a) where
   abbrev given : Lent
   given = handed (lent_of table scratch walk) lent
 
@@ -126,21 +127,21 @@ module _ {C : Type 0} (m : Meaning) (run run' : Run C) (table part scratch : Lis
       record { called = all; fits = cells_fit m run run' table (part ++ drop t table) (call given) given (first given) a all (omega arith) }
 
 -- the same where the call only reads the table
-pub reading_performed : {C : Type 0} (m : Meaning) (run run' : Run C) (table scratch : List ℕ) (walk : List Walk) (lent : Lent) (t s w : ℕ) → t ≡ min lent.table (length table) → s ≡ min lent.scratch (length scratch) → w ≡ min lent.walk (length walk) → (call : Lent → Event) → ((l : Lent) → First m (call l) l) → (a : Answer) → Called m run run' (take t table) (take t table) (call (lent_of (take t table) (take s scratch) (take w walk))) a → Performed m run run' table table (call (handed (lent_of table scratch walk) lent)) a
+pub reading_performed : {C : Type 0} {G : Ghosts C} (m : Meaning) (run run' : Run C G) (table scratch : List ℕ) (walk : List Walk) (lent : Lent) (t s w : ℕ) → t ≡ min lent.table (length table) → s ≡ min lent.scratch (length scratch) → w ≡ min lent.walk (length walk) → (call : Lent → Event) → ((l : Lent) → First m (call l) l) → (a : Answer) → Called m run run' (take t table) (take t table) (call (lent_of (take t table) (take s scratch) (take w walk))) a → Performed m run run' table table (call (handed (lent_of table scratch walk) lent)) a
 reading_performed m run run' table scratch walk lent t s w t-is s-is w-is call first a c =
     subst (λ u. Performed m run run' table u (call (handed (lent_of table scratch walk) lent)) a) (take-append-drop t table) (handed_performed m run run' table (take t table) scratch walk lent t s w t-is s-is w-is refl call first a c)
 
 -- a table that holds the cells of both runs
-abbrev long : {C : Type 0} → Run C → Run C → List ℕ
+abbrev long : {C : Type 0} {G : Ghosts C} → Run C G → Run C G → List ℕ
 long run run' = replicate (run.cells + run'.cells) 0
 
-count : {C : Type 0} (run run' : Run C) → length (take run'.cells (long run run')) ≡ length (take run.cells (long run run')) → run'.cells ≡ run.cells
+count : {C : Type 0} {G : Ghosts C} (run run' : Run C G) → length (take run'.cells (long run run')) ≡ length (take run.cells (long run run')) → run'.cells ≡ run.cells
 count run run' e =
     let n = length-replicate {A = ℕ} (run.cells + run'.cells) 0 in
     sym (length-take-le run'.cells (long run run') (omega (arith, n))) ∙ e ∙ length-take-le run.cells (long run run') (omega (arith, n))
 
 -- a withdrawal, which is as it is on every table
-module _ {C : Type 0} (m : Meaning) (run run' : Run C) (number : ℕ) (a : Answer) (c : (table : List ℕ) → Called m run run' table table (withdrawing number) a) where
+module _ {C : Type 0} {G : Ghosts C} (m : Meaning) (run run' : Run C G) (number : ℕ) (a : Answer) (c : (table : List ℕ) → Called m run run' table table (withdrawing number) a) where
   same_cells : TurnBy m (held m (chain_of run (long run run')) ∷ []) (chain_of run (long run run')) (withdrawing number) a (chain_of run' (long run run')) → run'.cells ≡ run.cells
   same_cells (accepted y p) = count run run' (ap (λ (d : Chain). length d.end) p.1)
   same_cells (refused r f g h) = (c (long run run')).refused r g

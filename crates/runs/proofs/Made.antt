@@ -1,5 +1,6 @@
 -- Calls that each keep their contract, made one after the other on a fresh run, keep the theorem. Assumes nothing.
 use Rattle.std.proofs.Common.{◌≡◌, ℕ, zero, suc, ◌+◌, ◌-◌, ◌<◌, ◌≤◌, ◌⊎◌, List, [], ◌∷◌, ◌++◌, length, take, drop, replicate, sym, refl, ap, ◌∙◌, subst, inl, inr, append_assoc, arith, length-append}
+use Rattle.calculus.specs.declared.Calculus.{Ghosts}
 use lib.ListN.{length-replicate}
 use lib.Seq.{drop-append_seam}
 use Rattle.terms.specs.Terms.{Laid}
@@ -17,17 +18,17 @@ use Rattle.runs.proofs.Turns.{as_chain}
 use Rattle.runs.proofs.Runs.{Held, IsOpen, held_on, fresh_held, replayed}
 
 -- the calls are made in turn, and this is said to each
-abbrev pub Made : {C : Type 0} → Meaning → Run C → List ℕ → List Event → List Said → Run C → List ℕ → Type 0
+abbrev pub Made : {C : Type 0} {G : Ghosts C} → Meaning → Run C G → List ℕ → List Event → List Said → Run C G → List ℕ → Type 0
 Made m run table [] [] run' table' = (run' ≡ run) × (table' ≡ table)
 Made m run table [] (x ∷ xs) run' table' = ⊥
 Made m run table (e ∷ es) [] run' table' = ⊥
-Made {C} m run table (e ∷ es) (x ∷ xs) run' table' =
-    (next : Run C) × ((after : List ℕ) × Called m run next table after e x.answer × (x.tells ≡ told (chain_of next after)) × Made m next after es xs run' table')
+Made {C} {G} m run table (e ∷ es) (x ∷ xs) run' table' =
+    (next : Run C G) × ((after : List ℕ) × Called m run next table after e x.answer × (x.tells ≡ told (chain_of next after)) × Made m next after es xs run' table')
 
 -- one call more
-pub made_more : {C : Type 0} (m : Meaning) (run run₁ run₂ : Run C) (table table₁ table₂ : List ℕ) (es : List Event) (xs : List Said) (e : Event) (x : Said) → Made m run table es xs run₁ table₁ → Called m run₁ run₂ table₁ table₂ e x.answer → x.tells ≡ told (chain_of run₂ table₂) → Made m run table (es ++ (e ∷ [])) (xs ++ (x ∷ [])) run₂ table₂
-made_more {C} m run run₁ run₂ table table₁ table₂ [] [] e x f c t =
-    let here = subst (λ (r : Run C). Called m r run₂ table₁ table₂ e x.answer) f.0 c in
+pub made_more : {C : Type 0} {G : Ghosts C} (m : Meaning) (run run₁ run₂ : Run C G) (table table₁ table₂ : List ℕ) (es : List Event) (xs : List Said) (e : Event) (x : Said) → Made m run table es xs run₁ table₁ → Called m run₁ run₂ table₁ table₂ e x.answer → x.tells ≡ told (chain_of run₂ table₂) → Made m run table (es ++ (e ∷ [])) (xs ++ (x ∷ [])) run₂ table₂
+made_more {C} {G} m run run₁ run₂ table table₁ table₂ [] [] e x f c t =
+    let here = subst (λ (r : Run C G). Called m r run₂ table₁ table₂ e x.answer) f.0 c in
     (run₂, (table₂, subst (λ u. Called m run run₂ u table₂ e x.answer) f.1 here, t, (refl, refl)))
 made_more m run run₁ run₂ table table₁ table₂ [] (y ∷ xs) e x f c t = absurd f
 made_more m run run₁ run₂ table table₁ table₂ (d ∷ es) [] e x f c t = absurd f
@@ -122,9 +123,9 @@ module _ (m : Meaning) (laws : Laws m) where
   only_left B (inl b) = b
   only_left B (inr n) = absurd n
 
-  ends : {C : Type 0} (B : Type 0) (first : List ℕ) (run run' : Run C) (table table' : List ℕ) (es : List Event) (xs : List Said) → Made m run table es xs run' table' → Held m (chain_of run table) → Stands B (chain_of run table) first table → Ends B (chain_of run table) (chain_of run' table') es xs first table'
-  ends {C} B first run run' table table' [] [] f k s =
-      let same : chain_of run' table' ≡ chain_of run table = ap (λ (r : Run C). chain_of r table') f.0 ∙ ap (chain_of run) f.1 in
+  ends : {C : Type 0} {G : Ghosts C} (B : Type 0) (first : List ℕ) (run run' : Run C G) (table table' : List ℕ) (es : List Event) (xs : List Said) → Made m run table es xs run' table' → Held m (chain_of run table) → Stands B (chain_of run table) first table → Ends B (chain_of run table) (chain_of run' table') es xs first table'
+  ends {C} {G} B first run run' table table' [] [] f k s =
+      let same : chain_of run' table' ≡ chain_of run table = ap (λ (r : Run C G). chain_of r table') f.0 ∙ ap (chain_of run) f.1 in
       record {
         follows = same;
         holds = λ b. f.1 ∙ s.holds (only_left B b) ∙ ap (λ (d : Chain). laid d.end first) (sym same);
@@ -146,7 +147,7 @@ module _ (m : Meaning) (laws : Laws m) where
       }
 
   -- the theorem, from the contracts of the calls
-  pub from_calls : {C : Type 0} (run run' : Run C) (table table' : List ℕ) (es : List Event) (xs : List Said) → chain_of run table ≡ fresh → Made m run table es xs run' table' → Replayed m es xs table table'
+  pub from_calls : {C : Type 0} {G : Ghosts C} (run run' : Run C G) (table table' : List ℕ) (es : List Event) (xs : List Said) → chain_of run table ≡ fresh → Made m run table es xs run' table' → Replayed m es xs table table'
   from_calls run run' table table' es xs new f =
       let held : Held m (chain_of run table) = subst (Held m) (sym new) (fresh_held m laws) in
       let idle : (chain_of run table).state ≡ Open → ⊥ = λ o. subst IsOpen (sym (ap (λ (d : Chain). d.state) (sym new) ∙ o)) tt in

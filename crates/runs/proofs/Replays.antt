@@ -1,5 +1,6 @@
 -- Calls made in a loop on a fresh run: one more, all of them, and some of them. Assumes nothing.
 use Rattle.std.proofs.Common.{◌≡◌, ℕ, ◌+◌, ◌<◌, ◌≤◌, List, [], ◌∷◌, ◌++◌, map, length, get_or, take, drop, replicate, sym, refl, ap, ◌∙◌, subst, arith}
+use Rattle.calculus.specs.declared.Calculus.{Ghosts}
 use lib.ListN.{length-replicate}
 use Rattle.std.proofs.lemmas.List.{length-take-le, map_more, map-append, take-append-drop, take_all}
 use Rattle.layout.specs.declared.Walk.{Walk}
@@ -18,24 +19,24 @@ use Rattle.runs.specs.declared.call.Said.{Said}
 use Rattle.runs.proofs.Made.{Made, made_more, from_calls}
 
 -- a fresh run tells no cells
-no_cells : {C : Type 0} (run : Run C) → ((table : List ℕ) → chain_of run table ≡ fresh) → run.cells ≡ 0
+no_cells : {C : Type 0} {G : Ghosts C} (run : Run C G) → ((table : List ℕ) → chain_of run table ≡ fresh) → run.cells ≡ 0
 no_cells run new =
     let table = replicate run.cells 0 in
     sym (length-take-le run.cells table (omega (arith, length-replicate {A = ℕ} run.cells 0))) ∙ ap (λ (c : Chain). length c.end) (new table)
 
 -- What the loop has come to on a fresh run: so many calls were made, and this was said to each.
-pub record Gone {C : Type 0} (mean : C → Meaning) (run : Run C) (table scratch : List ℕ) (walk : List Walk) (calls : List Call) (i : ℕ) (said : List Said) (run₁ : Run C) (table₁ : List ℕ) : Type 0 where
+pub record Gone {C : Type 0} {G : Ghosts C} (mean : C → Meaning) (run : Run C G) (table scratch : List ℕ) (walk : List Walk) (calls : List Call) (i : ℕ) (said : List Said) (run₁ : Run C G) (table₁ : List ℕ) : Type 0 where
   pub calculus : run₁.calculus ≡ run.calculus
   pub fits : run₁.cells ≤ length table₁
   pub made : Made (mean run.calculus) run table (map (event_of (lent_of table scratch walk)) (take i calls)) said run₁ table₁
 
-pub gone_none : {C : Type 0} (mean : C → Meaning) (run : Run C) (table scratch : List ℕ) (walk : List Walk) (calls : List Call) (said : List Said) → ((u : List ℕ) → chain_of run u ≡ fresh) → said ≡ [] → Gone mean run table scratch walk calls 0 said run table
+pub gone_none : {C : Type 0} {G : Ghosts C} (mean : C → Meaning) (run : Run C G) (table scratch : List ℕ) (walk : List Walk) (calls : List Call) (said : List Said) → ((u : List ℕ) → chain_of run u ≡ fresh) → said ≡ [] → Gone mean run table scratch walk calls 0 said run table
 gone_none mean run table scratch walk calls said new none =
     let cells = no_cells run new in
     record { calculus = refl; fits = omega (arith, cells); made = subst (λ xs. Made (mean run.calculus) run table [] xs run table) (sym none) (refl, refl) }
 
 -- one call more
-module _ {C : Type 0} (mean : C → Meaning) (run run₁ run₂ : Run C) (table table₁ table₂ scratch scratch₁ : List ℕ) (walk walk₁ : List Walk) (calls : List Call) (i : ℕ) (d : Call) (said : List Said) (answer : Answer) (tells : Told) (g : Gone mean run table scratch walk calls i said run₁ table₁) where
+module _ {C : Type 0} {G : Ghosts C} (mean : C → Meaning) (run run₁ run₂ : Run C G) (table table₁ table₂ scratch scratch₁ : List ℕ) (walk walk₁ : List Walk) (calls : List Call) (i : ℕ) (d : Call) (said : List Said) (answer : Answer) (tells : Told) (g : Gone mean run table scratch walk calls i said run₁ table₁) where
   pub gone_more : length table₁ ≡ length table → length scratch₁ ≡ length scratch → length walk₁ ≡ length walk → length table₂ ≡ length table₁ → i < length calls → Performed (mean run₁.calculus) run₁ run₂ table₁ table₂ (event_of (lent_of table₁ scratch₁ walk₁) (get_or calls i d)) answer → ((u : List ℕ) → run₂.cells ≤ length u → tells ≡ told (chain_of run₂ u)) → Gone mean run table scratch walk calls (i + 1) (said ++ (record { answer = answer; tells = tells } ∷ [])) run₂ table₂
   gone_more t-kept s-kept w_kept kept within p tell =
       let f = event_of (lent_of table scratch walk) in
@@ -53,7 +54,7 @@ module _ {C : Type 0} (mean : C → Meaning) (run run₁ run₂ : Run C) (table 
       }
 
 -- the theorem at the end of the calls, and where the heap ends before
-module _ {C : Type 0} (mean : C → Meaning) (laws : (k : C) → Laws (mean k)) (calculus : C) (run run₁ : Run C) (table table₁ scratch : List ℕ) (walk : List Walk) (calls : List Call) (i : ℕ) (xs : List Said) (same : run.calculus ≡ calculus) (new : chain_of run table ≡ fresh) (g : Gone mean run table scratch walk calls i xs run₁ table₁) where
+module _ {C : Type 0} {G : Ghosts C} (mean : C → Meaning) (laws : (k : C) → Laws (mean k)) (calculus : C) (run run₁ : Run C G) (table table₁ scratch : List ℕ) (walk : List Walk) (calls : List Call) (i : ℕ) (xs : List Said) (same : run.calculus ≡ calculus) (new : chain_of run table ≡ fresh) (g : Gone mean run table scratch walk calls i xs run₁ table₁) where
   some : Replayed (mean calculus) (map (event_of (lent_of table scratch walk)) (take i calls)) xs table table₁
   some =
       from_calls (mean calculus) (laws calculus) run run₁ table table₁ (map (event_of (lent_of table scratch walk)) (take i calls)) xs new (subst (λ k. Made (mean k) run table (map (event_of (lent_of table scratch walk)) (take i calls)) xs run₁ table₁) same g.made)

@@ -1,5 +1,6 @@
 -- Where a call is refused behind what the run's state decides. Assumes nothing.
 use Rattle.std.proofs.Common.{◌≡◌, ℕ, List, ◌∷◌, Ok, Err, Result, sym, subst, inr, Bor}
+use Rattle.calculus.specs.declared.Calculus.{Ghosts}
 use Rattle.terms.specs.Terms.{Laid}
 use Rattle.calculus.specs.Meaning.{Meaning}
 use Rattle.runs.specs.Questions.{FirstNo}
@@ -19,7 +20,7 @@ pub step_answered : (m : Meaning) (cells : List ℕ) (s : Step) (space : List �
 step_answered m cells s space (Ok n) h a = (h, a.0, a.1)
 step_answered m cells s space (Err r) h n = inr (h, n)
 
-module _ {C : Type 0} (m : Meaning) (run run' : Run C) (e : Event) (space : List ℕ) (r : Refusal) (open_is : run.state ≡ Open) (stays : run' ≡ run) where
+module _ {C : Type 0} {G : Ghosts C} (m : Meaning) (run run' : Run C G) (e : Event) (space : List ℕ) (r : Refusal) (open_is : run.state ≡ Open) (stays : run' ≡ run) where
   pub step_refused : (rule argument : ℕ) (place inner term : Bor (List ℕ)) → e ≡ event.Step rule place argument inner term → StepAnswered m term.now (order rule place argument inner) space (Err r) → Turned m run run' e space (Err r)
   step_refused rule argument place inner term is n =
       subst (λ (x : Event). Turned m run run' x space (Err r)) (sym is) (λ lent enough. inr (enough, inr (open_is, n)), stays)

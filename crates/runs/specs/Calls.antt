@@ -1,5 +1,6 @@
 -- What each single call answers and leaves, on any run and any memory.
 use Rattle.std.specs.Prelude.{◌≡◌, ℕ, min, List, [], ◌∷◌, map, length, take, replicate, Ok, Err, Result}
+use Rattle.calculus.specs.declared.Calculus.{Ghosts}
 use Rattle.layout.specs.declared.Walk.{Walk}
 use Rattle.calculus.specs.Meaning.{Meaning}
 use Rattle.runs.specs.Steps.{Step}
@@ -30,7 +31,7 @@ event_of all (call.Settle ticket claim lent) = settling ticket claim.now (handed
 event_of all (call.Withdraw ticket) = withdrawing ticket
 
 -- the chain that a run and its table have come to
-abbrev pub chain_of : {C : Type 0} → Run C → List ℕ → Chain
+abbrev pub chain_of : {C : Type 0} {G : Ghosts C} → Run C G → List ℕ → Chain
 chain_of run table =
     record { state = run.state; openings = run.openings; end = take run.cells table; steps = run.steps }
 
@@ -43,7 +44,7 @@ table_after Withdrawn end table = table
 table_after (Refused r) end table = table
 
 -- What a call leaves, whatever the run and the memory: the run keeps its calculus and turns as its table says.
-pub record Called {C : Type 0} (m : Meaning) (run run' : Run C) (table table' : List ℕ) (e : Event) (a : Answer) : Type 0 where
+pub record Called {C : Type 0} {G : Ghosts C} (m : Meaning) (run run' : Run C G) (table table' : List ℕ) (e : Event) (a : Answer) : Type 0 where
   pub calculus : run'.calculus ≡ run.calculus
   pub turn : TurnBy m (held m (chain_of run table) ∷ []) (chain_of run table) e a (chain_of run' table')
   pub refused : (r : Refusal) → a ≡ Refused r → run'.cells ≡ run.cells
@@ -80,7 +81,7 @@ abbrev pub HandedBack : {A : Type 0} → Ticket → Result A (Refusal × Ticket)
 HandedBack ticket (Ok v) = Unit {0}
 HandedBack ticket (Err p) = p.1 ≡ ticket
 
-module _ {C : Type 0} (m : Meaning) (run run' : Run C) where
+module _ {C : Type 0} {G : Ghosts C} (m : Meaning) (run run' : Run C G) where
   pub record OpenAsked (start table table' scratch scratch' : List ℕ) (walk walk' : List Walk) (r : Result Ticket Refusal) : Type 0 where
     pub called : Called m run run' table table' (opening start (lent_of table scratch walk)) (opening_said r)
     pub cleared : Cleared (opening_said r ≡ Refused no.Memory) scratch scratch' walk walk'

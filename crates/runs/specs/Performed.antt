@@ -1,5 +1,6 @@
 -- One call among others, made with what it is handed of the memory.
 use Rattle.std.specs.Prelude.{ℕ, ◌≤◌, List, length}
+use Rattle.calculus.specs.declared.Calculus.{Ghosts}
 use Rattle.calculus.specs.Meaning.{Meaning}
 use Rattle.runs.specs.Chain.{Event}
 use Rattle.runs.specs.Calls.{Called}
@@ -7,6 +8,6 @@ use Rattle.runs.specs.declared.run.Run.{Run}
 use Rattle.runs.specs.declared.call.Answer.{Answer}
 
 -- The call keeps its contract, and the cells that the run tells stay within the table.
-pub record Performed {C : Type 0} (m : Meaning) (run run' : Run C) (table table' : List ℕ) (e : Event) (a : Answer) : Type 0 where
+pub record Performed {C : Type 0} {G : Ghosts C} (m : Meaning) (run run' : Run C G) (table table' : List ℕ) (e : Event) (a : Answer) : Type 0 where
   pub called : Called m run run' table table' e a
   pub fits : run.cells ≤ length table → run'.cells ≤ length table

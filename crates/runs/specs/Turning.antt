@@ -1,5 +1,6 @@
 -- What a run does with a call whose memory is enough.
 use Rattle.std.specs.Prelude.{◌≡◌, ℕ, ◌+◌, ◌≤◌, min, List, [], ◌∷◌, length, take, Ok, Err, Result}
+use Rattle.calculus.specs.declared.Calculus.{Ghosts}
 use Rattle.std.specs.Borrow.{Bor}
 use Rattle.layout.specs.declared.Walk.{Walk}
 use Rattle.calculus.specs.Meaning.{Meaning}
@@ -40,11 +41,11 @@ Room (event.Settle ticket claim term) space walk = 256 ≤ length walk
 Room (event.Withdraw ticket) space walk = Unit {0}
 
 -- the chain that a run has come to, if its table holds these cells
-abbrev pub chain_at : {C : Type 0} → Run C → List ℕ → Chain
+abbrev pub chain_at : {C : Type 0} {G : Ghosts C} → Run C G → List ℕ → Chain
 chain_at run end = record { state = run.state; openings = run.openings; end = end; steps = run.steps }
 
 -- the run keeps its calculus, and the rest of it is this
-pub record Moves {C : Type 0} (run run' : Run C) (state : State) (openings cells steps : ℕ) : Type 0 where
+pub record Moves {C : Type 0} {G : Ghosts C} (run run' : Run C G) (state : State) (openings cells steps : ℕ) : Type 0 where
   pub calculus : run'.calculus ≡ run.calculus
   pub state_is : run'.state ≡ state
   pub openings_is : run'.openings ≡ openings
@@ -52,7 +53,7 @@ pub record Moves {C : Type 0} (run run' : Run C) (state : State) (openings cells
   pub steps_is : run'.steps ≡ steps
 
 -- the run after an accepted call; the term that a step leads to stands in the space
-abbrev pub Moved : {C : Type 0} → Meaning → Run C → Run C → EventOf → List ℕ → Type 0
+abbrev pub Moved : {C : Type 0} {G : Ghosts C} → Meaning → Run C G → Run C G → EventOf → List ℕ → Type 0
 Moved m run run' (event.Open start) space = Moves run run' Open (run.openings + 1) (length start.now) 0
 Moved m run run' (event.Step rule place argument inner term) space =
     Moves run run' run.state run.openings run'.cells (min (run.steps + 1) 4294967295) × Leads m term.now (order rule place argument inner) (take run'.cells space)
@@ -60,7 +61,7 @@ Moved m run run' (event.Settle ticket claim term) space = Moves run run' Idle ru
 Moved m run run' (event.Withdraw ticket) space = Moves run run' Idle run.openings run.cells run.steps
 
 -- All questions are yes, and the run moves; or the first no is told, and it stays.
-module _ {C : Type 0} (m : Meaning) (run run' : Run C) (e : EventOf) (space : List ℕ) where
+module _ {C : Type 0} {G : Ghosts C} (m : Meaning) (run run' : Run C G) (e : EventOf) (space : List ℕ) where
   abbrev pub Turned : Result (Unit {0}) Refusal → Type 0
   Turned (Ok u) =
       ((lent : Lent) → Enough lent → AllYes (questions m (chain_at run (held_of e)) (held m (chain_at run (held_of e)) ∷ []) (fed lent e))) × Moved m run run' e space

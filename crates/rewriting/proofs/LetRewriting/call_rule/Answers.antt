@@ -6,15 +6,15 @@ use Rattle.rewriting.specs.Programs.{program}
 use Rattle.rewriting.proofs.Askings.{rule_of}
 use Rattle.rewriting.proofs.LetRewriting.call_rule.Goals as goal
 
-pub offset-bounds-cells-start : goal.offset-bounds-cells-start
-offset-bounds-cells-start c =
+pub offset_bounds-cells-start : goal.offset_bounds-cells-start
+offset_bounds-cells-start c =
     let s = c.in-Some.ensures in
     let h = tree_here s.stands in
     let e = ap length c.cells.ensures in
     omega arith
 
-pub slice-bounds-call-end : goal.slice-bounds-call-end
-slice-bounds-call-end c =
+pub slice_bounds-call-end : goal.slice_bounds-call-end
+slice_bounds-call-end c =
     let s = c.in-Some.ensures in
     let h = tree_here s.stands in
     let w = size_within s.stands in

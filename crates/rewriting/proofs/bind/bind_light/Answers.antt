@@ -16,25 +16,25 @@ use Rattle.rewriting.proofs.bind.bind_light.Goals as goal
 shown : {t : Row} {cells : List ℕ} (how : Substitution) (body : ℕ) → TermAt t cells 0 → (l : Let t) → body ≡ 1 + size l.a → how ≡ Instead 1 body → Shows cells how (instead l.a)
 shown {cells = cells} how body s l i e = subst (λ h. Shows cells h (instead l.a)) (sym e) (shows_instead 1 body cells l.a (bound_at s l).stands i)
 
-pub let-body-requires : goal.let-body-requires
-let-body-requires c = (c.requires.row, spelled c.requires.row c.requires.lawful c.requires.reads)
+pub let_body-requires : goal.let_body-requires
+let_body-requires c = (c.requires.row, spelled c.requires.row c.requires.lawful c.requires.reads)
 
-pub returns-in-default : goal.returns-in-default
-returns-in-default c = λ t h e. (refl, c.in-default.ensures t (spelled t h e))
+pub returns-in_default : goal.returns-in_default
+returns-in_default c = λ t h e. (refl, c.in_default.ensures t (spelled t h e))
 
-pub is-light-requires : goal.is-light-requires
-is-light-requires c =
+pub is_light-requires : goal.is_light-requires
+is_light-requires c =
     let s = spelled c.requires.row c.requires.lawful c.requires.reads in
     let b = c.in-Some.ensures c.requires.row s in
     let k = let_size s b.0 in
     let n = spelled_size c.requires.row c.requires.reads in
     (omega (arith, b.1), omega (arith, b.1))
 
-pub returns-then-not-is-light : goal.returns-then-not-is-light
-returns-then-not-is-light c = λ t h e.
+pub returns-then-not-is_light : goal.returns-then-not-is_light
+returns-then-not-is_light c = λ t h e.
     let s = spelled t h e in
     let b = c.in-Some.ensures t s in
-    let q : false ≡ light b.0.a = c.if-not-is-light.ensures 1 b.0.a b.0.letters.0 (bound_at s b.0).stands b.1 in (
+    let q : false ≡ light b.0.a = c.if-not-is_light.ensures 1 b.0.a b.0.letters.0 (bound_at s b.0).stands b.1 in (
       refl,
       (
         b.0,
@@ -45,19 +45,19 @@ returns-then-not-is-light c = λ t h e.
       ),
     )
 
-pub count-row-requires : goal.count-row-requires
-count-row-requires c =
+pub count_row-requires : goal.count_row-requires
+count_row-requires c =
     let s = spelled c.requires.row c.requires.lawful c.requires.reads in
     let b = c.in-Some.ensures c.requires.row s in
     record { row = (b.0.e, (body_at s b.0 c.in-Some.body b.1).stands); low = omega arith }
 
-pub substitute-row-count-requires : goal.substitute-row-count-requires
-substitute-row-count-requires c =
+pub substitute_row-count-requires : goal.substitute_row-count-requires
+substitute_row-count-requires c =
     let s = spelled c.requires.row c.requires.lawful c.requires.reads in
     let b = c.in-Some.ensures c.requires.row s in
     let st = (body_at s b.0 c.in-Some.body b.1).stands in
     let h = shown c.instead-how.result c.in-Some.body s b.0 b.1 c.instead-how.ensures in
-    let k = (c.in-Some-count-row.ensures b.0.e (instead b.0.a) st (shows_sizes _ _ _ h)).1 in
+    let k = (c.in-Some-count_row.ensures b.0.e (instead b.0.a) st (shows_sizes _ _ _ h)).1 in
     record {
       row = record { row = b.0.e; stands = st; s = instead b.0.a; shows = h; small = omega (arith, k) };
       fits = omega arith;
@@ -70,16 +70,16 @@ returns-in-None c = λ t h e.
     let b = c.in-Some.ensures t s in
     let st = (body_at s b.0 c.in-Some.body b.1).stands in
     let sh = shown c.instead-how.result c.in-Some.body s b.0 b.1 c.instead-how.ensures in
-    let q = c.if-not-is-light.ensures 1 b.0.a b.0.letters.0 (bound_at s b.0).stands b.1 in
+    let q = c.if-not-is_light.ensures 1 b.0.a b.0.letters.0 (bound_at s b.0).stands b.1 in
     (refl, (instantiate b.0.a b.0.e, (b.0, sym q, tt, refl), c.in-None.ensures b.0.e (instead b.0.a) st (shows_sizes _ _ _ sh)))
 
-pub returns-in-Some-count-row : goal.returns-in-Some-count-row
-returns-in-Some-count-row c = λ t h e.
+pub returns-in-Some-count_row : goal.returns-in-Some-count_row
+returns-in-Some-count_row c = λ t h e.
     let s = spelled t h e in
     let b = c.in-Some.ensures t s in
     let st = (body_at s b.0 c.in-Some.body b.1).stands in
     let sh = shown c.instead-how.result c.in-Some.body s b.0 b.1 c.instead-how.ensures in
-    let q = c.if-not-is-light.ensures 1 b.0.a b.0.letters.0 (bound_at s b.0).stands b.1 in
-    let k = (c.in-Some-count-row.ensures b.0.e (instead b.0.a) st (shows_sizes _ _ _ sh)).1 in
-    let f = c.substitute-row-count.ensures b.0.e (instead b.0.a) st sh in
+    let q = c.if-not-is_light.ensures 1 b.0.a b.0.letters.0 (bound_at s b.0).stands b.1 in
+    let k = (c.in-Some-count_row.ensures b.0.e (instead b.0.a) st (shows_sizes _ _ _ sh)).1 in
+    let f = c.substitute_row-count.ensures b.0.e (instead b.0.a) st sh in
     wrote _ (instantiate b.0.a b.0.e) _ _ _ (b.0, sym q, tt, refl) (omega (arith, f.upto)) (omega (arith, k)) f.wrote

@@ -24,48 +24,48 @@ pub returns-then-not-calls : goal.returns-then-not-calls
 returns-then-not-calls c = λ program argument o t h e.
     (refl, λ l. not_from_Decides _ c.calls.ensures c.if-not-calls.true (calls_head (spelled t h e) (parted o.0 o.1 (1 + size o.0.l) refl) program argument refl l))
 
-pub end-of-right-requires : goal.end-of-right-requires
-end-of-right-requires c = let g = c.requires.rule in (g.lawful.l, left_at g.lawful g.reads)
+pub end_of-right-requires : goal.end_of-right-requires
+end_of-right-requires c = let g = c.requires.rule in (g.lawful.l, left_at g.lawful g.reads)
 
-pub slice-bounds-match-left-count : goal.slice-bounds-match-left-count
-slice-bounds-match-left-count c =
+pub slice_bounds-match_left-count : goal.slice_bounds-match_left-count
+slice_bounds-match_left-count c =
     let g = c.requires.rule in
-    let q = parted g.lawful g.reads c.end-of-right.result (c.end-of-right.ensures g.lawful.l (left_at g.lawful g.reads)) in
+    let q = parted g.lawful g.reads c.end_of-right.result (c.end_of-right.ensures g.lawful.l (left_at g.lawful g.reads)) in
     omega arith
 
-pub slice-bounds-match-left-start : goal.slice-bounds-match-left-start
-slice-bounds-match-left-start c =
+pub slice_bounds-match_left-start : goal.slice_bounds-match_left-start
+slice_bounds-match_left-start c =
     let g = c.requires.rule in
-    let q = parted g.lawful g.reads c.end-of-right.result (c.end-of-right.ensures g.lawful.l (left_at g.lawful g.reads)) in
+    let q = parted g.lawful g.reads c.end_of-right.result (c.end_of-right.ensures g.lawful.l (left_at g.lawful g.reads)) in
     omega arith
 
-pub slice-bounds-match-left-end : goal.slice-bounds-match-left-end
-slice-bounds-match-left-end c =
+pub slice_bounds-match_left-end : goal.slice_bounds-match_left-end
+slice_bounds-match_left-end c =
     let g = c.requires.rule in
-    let q = parted g.lawful g.reads c.end-of-right.result (c.end-of-right.ensures g.lawful.l (left_at g.lawful g.reads)) in
+    let q = parted g.lawful g.reads c.end_of-right.result (c.end_of-right.ensures g.lawful.l (left_at g.lawful g.reads)) in
     omega arith
 
-pub match-left-requires : goal.match-left-requires
-match-left-requires c =
+pub match_left-requires : goal.match_left-requires
+match_left-requires c =
     let g = c.requires.rule in
-    let q = parted g.lawful g.reads c.end-of-right.result (c.end-of-right.ensures g.lawful.l (left_at g.lawful g.reads)) in
+    let q = parted g.lawful g.reads c.end_of-right.result (c.end_of-right.ensures g.lawful.l (left_at g.lawful g.reads)) in
     let s = spelled c.requires.redex.row c.requires.redex.lawful c.requires.redex.reads in
     let a = applied s q (c.calls.ensures.0 c.if-not-calls.false) in
     let f = facing s q a _ 1024 refl refl in
     (q.p, a.ts, f)
 
-pub returns-in-default : goal.returns-in-default
-returns-in-default c = λ program argument o t h e.
-    let q = parted o.0 o.1 c.end-of-right.result (c.end-of-right.ensures o.0.l (left_at o.0 o.1)) in
+pub returns-in_default : goal.returns-in_default
+returns-in_default c = λ program argument o t h e.
+    let q = parted o.0 o.1 c.end_of-right.result (c.end_of-right.ensures o.0.l (left_at o.0 o.1)) in
     let s = spelled t h e in
     let a = applied s q (c.calls.ensures.0 c.if-not-calls.false) in
     let f = facing s q a _ 1024 refl refl in
-    (refl, λ l. c.in-default.ensures q.p a.ts f l.θ (called_match s q program argument refl a l).1)
+    (refl, λ l. c.in_default.ensures q.p a.ts f l.θ (called_match s q program argument refl a l).1)
 
-pub slice-bounds-bound-end : goal.slice-bounds-bound-end
-slice-bounds-bound-end c =
+pub slice_bounds-bound-end : goal.slice_bounds-bound-end
+slice_bounds-bound-end c =
     let g = c.requires.rule in
-    let q = parted g.lawful g.reads c.end-of-right.result (c.end-of-right.ensures g.lawful.l (left_at g.lawful g.reads)) in
+    let q = parted g.lawful g.reads c.end_of-right.result (c.end_of-right.ensures g.lawful.l (left_at g.lawful g.reads)) in
     let s = spelled c.requires.redex.row c.requires.redex.lawful c.requires.redex.reads in
     let a = applied s q (c.calls.ensures.0 c.if-not-calls.false) in
     let f = facing s q a _ 1024 refl refl in
@@ -73,10 +73,10 @@ slice-bounds-bound-end c =
     let θ = m.1.0 in
     omega (arith, m.0, q.few)
 
-pub are-light-requires : goal.are-light-requires
-are-light-requires c =
+pub are_light-requires : goal.are_light-requires
+are_light-requires c =
     let g = c.requires.rule in
-    let q = parted g.lawful g.reads c.end-of-right.result (c.end-of-right.ensures g.lawful.l (left_at g.lawful g.reads)) in
+    let q = parted g.lawful g.reads c.end_of-right.result (c.end_of-right.ensures g.lawful.l (left_at g.lawful g.reads)) in
     let s = spelled c.requires.redex.row c.requires.redex.lawful c.requires.redex.reads in
     let a = applied s q (c.calls.ensures.0 c.if-not-calls.false) in
     let f = facing s q a _ 1024 refl refl in
@@ -85,16 +85,16 @@ are-light-requires c =
     let b = bound_front (c.in-Some.n - 0) (omega arith) (omega (arith, m.0, q.few)) m.1.1 in
     (θ, b)
 
-pub returns-then-not-are-light : goal.returns-then-not-are-light
-returns-then-not-are-light c = λ program argument o t h e.
-    let q = parted o.0 o.1 c.end-of-right.result (c.end-of-right.ensures o.0.l (left_at o.0 o.1)) in
+pub returns-then-not-are_light : goal.returns-then-not-are_light
+returns-then-not-are_light c = λ program argument o t h e.
+    let q = parted o.0 o.1 c.end_of-right.result (c.end_of-right.ensures o.0.l (left_at o.0 o.1)) in
     let s = spelled t h e in
     let a = applied s q (c.calls.ensures.0 c.if-not-calls.false) in
     let f = facing s q a _ 1024 refl refl in
     let m = c.in-Some.ensures q.p a.ts f in
     let θ = m.1.0 in
     let b = bound_front (c.in-Some.n - 0) (omega arith) (omega (arith, m.0, q.few)) m.1.1 in
-    let no : false ≡ light θ = c.if-not-are-light.ensures θ b in (
+    let no : false ≡ light θ = c.if-not-are_light.ensures θ b in (
       refl,
       (
         called s q program argument refl a θ m.0 m.1.1 m.1.2,
@@ -107,16 +107,16 @@ returns-then-not-are-light c = λ program argument o t h e.
       ),
     )
 
-pub count-row-requires : goal.count-row-requires
-count-row-requires c =
+pub count_row-requires : goal.count_row-requires
+count_row-requires c =
     let g = c.requires.rule in
-    let q = parted g.lawful g.reads c.end-of-right.result (c.end-of-right.ensures g.lawful.l (left_at g.lawful g.reads)) in
+    let q = parted g.lawful g.reads c.end_of-right.result (c.end_of-right.ensures g.lawful.l (left_at g.lawful g.reads)) in
     record { row = (q.r, q.right_at.stands); low = omega arith }
 
-pub substitute-row-count-requires : goal.substitute-row-count-requires
-substitute-row-count-requires c =
+pub substitute_row-count-requires : goal.substitute_row-count-requires
+substitute_row-count-requires c =
     let g = c.requires.rule in
-    let q = parted g.lawful g.reads c.end-of-right.result (c.end-of-right.ensures g.lawful.l (left_at g.lawful g.reads)) in
+    let q = parted g.lawful g.reads c.end_of-right.result (c.end_of-right.ensures g.lawful.l (left_at g.lawful g.reads)) in
     let s = spelled c.requires.redex.row c.requires.redex.lawful c.requires.redex.reads in
     let a = applied s q (c.calls.ensures.0 c.if-not-calls.false) in
     let f = facing s q a _ 1024 refl refl in
@@ -124,7 +124,7 @@ substitute-row-count-requires c =
     let θ = m.1.0 in
     let b = bound_front (c.in-Some.n - 0) (omega arith) (omega (arith, m.0, q.few)) m.1.1 in
     let sh = shown θ c.bindings-how.result _ c.bindings-how.ensures b in
-    let k = (c.in-Some-count-row.ensures q.r _ q.right_at.stands (shows_sizes _ _ _ sh)).1 in
+    let k = (c.in-Some-count_row.ensures q.r _ q.right_at.stands (shows_sizes _ _ _ sh)).1 in
     record {
       row = record { row = q.r; stands = q.right_at.stands; s = _; shows = sh; small = omega (arith, k) };
       fits = omega arith;
@@ -133,7 +133,7 @@ substitute-row-count-requires c =
 
 pub returns-in-None : goal.returns-in-None
 returns-in-None c = λ program argument o t h e.
-    let q = parted o.0 o.1 c.end-of-right.result (c.end-of-right.ensures o.0.l (left_at o.0 o.1)) in
+    let q = parted o.0 o.1 c.end_of-right.result (c.end_of-right.ensures o.0.l (left_at o.0 o.1)) in
     let s = spelled t h e in
     let a = applied s q (c.calls.ensures.0 c.if-not-calls.false) in
     let f = facing s q a _ 1024 refl refl in
@@ -142,12 +142,12 @@ returns-in-None c = λ program argument o t h e.
     let b = bound_front (c.in-Some.n - 0) (omega arith) (omega (arith, m.0, q.few)) m.1.1 in
     let sh = shown θ c.bindings-how.result _ c.bindings-how.ensures b in
     let k = c.in-None.ensures q.r _ q.right_at.stands (shows_sizes _ _ _ sh) in
-    let same = given_same θ (length (take (c.in-Some.n - 0) c.match-left.new.spans)) q.r (λ x w. omega (arith, q.below x w, m.0, b.wide, m.1.1.wide)) in
-    (refl, (substitute (binding θ) 0 0 q.r, (gives_right s q program argument refl a θ m.0 m.1.1 m.1.2 (sym (c.if-not-are-light.ensures θ b))), omega (arith, k, ap size same)))
+    let same = given_same θ (length (take (c.in-Some.n - 0) c.match_left.new.spans)) q.r (λ x w. omega (arith, q.below x w, m.0, b.wide, m.1.1.wide)) in
+    (refl, (substitute (binding θ) 0 0 q.r, (gives_right s q program argument refl a θ m.0 m.1.1 m.1.2 (sym (c.if-not-are_light.ensures θ b))), omega (arith, k, ap size same)))
 
-pub returns-in-Some-count-row : goal.returns-in-Some-count-row
-returns-in-Some-count-row c = λ program argument o t h e.
-    let q = parted o.0 o.1 c.end-of-right.result (c.end-of-right.ensures o.0.l (left_at o.0 o.1)) in
+pub returns-in-Some-count_row : goal.returns-in-Some-count_row
+returns-in-Some-count_row c = λ program argument o t h e.
+    let q = parted o.0 o.1 c.end_of-right.result (c.end_of-right.ensures o.0.l (left_at o.0 o.1)) in
     let s = spelled t h e in
     let a = applied s q (c.calls.ensures.0 c.if-not-calls.false) in
     let f = facing s q a _ 1024 refl refl in
@@ -155,8 +155,8 @@ returns-in-Some-count-row c = λ program argument o t h e.
     let θ = m.1.0 in
     let b = bound_front (c.in-Some.n - 0) (omega arith) (omega (arith, m.0, q.few)) m.1.1 in
     let sh = shown θ c.bindings-how.result _ c.bindings-how.ensures b in
-    let k = (c.in-Some-count-row.ensures q.r _ q.right_at.stands (shows_sizes _ _ _ sh)).1 in
-    let w = c.substitute-row-count.ensures q.r _ q.right_at.stands sh in
-    let same = given_same θ (length (take (c.in-Some.n - 0) c.match-left.new.spans)) q.r (λ x w. omega (arith, q.below x w, m.0, b.wide, m.1.1.wide)) in
+    let k = (c.in-Some-count_row.ensures q.r _ q.right_at.stands (shows_sizes _ _ _ sh)).1 in
+    let w = c.substitute_row-count.ensures q.r _ q.right_at.stands sh in
+    let same = given_same θ (length (take (c.in-Some.n - 0) c.match_left.new.spans)) q.r (λ x w. omega (arith, q.below x w, m.0, b.wide, m.1.1.wide)) in
     let z = ap size same in
-    wrote _ (substitute (binding θ) 0 0 q.r) _ _ _ (gives_right s q program argument refl a θ m.0 m.1.1 m.1.2 (sym (c.if-not-are-light.ensures θ b))) (omega (arith, w.upto)) (omega (arith, k)) (w.wrote ∙ ap (λ u. over c.args.space.now 0 (flat u)) same)
+    wrote _ (substitute (binding θ) 0 0 q.r) _ _ _ (gives_right s q program argument refl a θ m.0 m.1.1 m.1.2 (sym (c.if-not-are_light.ensures θ b))) (omega (arith, w.upto)) (omega (arith, k)) (w.wrote ∙ ap (λ u. over c.args.space.now 0 (flat u)) same)

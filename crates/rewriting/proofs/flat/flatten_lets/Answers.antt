@@ -11,23 +11,23 @@ use Rattle.rewriting.proofs.LetParts.{bound_at, lets_outer, lets_inner, spread}
 use Rattle.rewriting.proofs.Writes.{filled_none, filled_more, wrote_filled}
 use Rattle.rewriting.proofs.flat.flatten_lets.Goals as goal
 
-pub let-body-requires : goal.let-body-requires
-let-body-requires c = (c.requires.row, spelled c.requires.row c.requires.lawful c.requires.reads)
+pub let_body-requires : goal.let_body-requires
+let_body-requires c = (c.requires.row, spelled c.requires.row c.requires.lawful c.requires.reads)
 
-pub returns-in-default : goal.returns-in-default
-returns-in-default c = λ t h e. (refl, λ q. c.in-default.ensures t (spelled t h e) (lets_outer q))
+pub returns-in_default : goal.returns-in_default
+returns-in_default c = λ t h e. (refl, λ q. c.in_default.ensures t (spelled t h e) (lets_outer q))
 
-pub let-body-requires-2 : goal.let-body-requires-2
-let-body-requires-2 c =
+pub let_body-requires-2 : goal.let_body-requires-2
+let_body-requires-2 c =
     let s = spelled c.requires.row c.requires.lawful c.requires.reads in
     let b = c.in-Some.ensures c.requires.row s in
     (b.0.a, bound_at s b.0)
 
-pub returns-in-default-let-body : goal.returns-in-default-let-body
-returns-in-default-let-body c = λ t h e.
+pub returns-in_default-let_body : goal.returns-in_default-let_body
+returns-in_default-let_body c = λ t h e.
     let s = spelled t h e in
     let b = c.in-Some.ensures t s in
-    (refl, λ q. c.in-default-let-body.ensures b.0.a (bound_at s b.0) (lets_inner b.0 q))
+    (refl, λ q. c.in_default-let_body.ensures b.0.a (bound_at s b.0) (lets_inner b.0 q))
 
 -- the new let's cells
 new_size : (a b e : Row) → size (let_in a (let_in b (up_beyond e))) ≡ 2 + size a + size b + size e
@@ -40,15 +40,15 @@ pub returns-then-redex-space : goal.returns-then-redex-space
 returns-then-redex-space c = λ t h e.
     let s = spelled t h e in
     let b = c.in-Some.ensures t s in
-    let m = c.in-Some-let-body.ensures b.0.a (bound_at s b.0) in
+    let m = c.in-Some-let_body.ensures b.0.a (bound_at s b.0) in
     let q = spread s (spelled_size t e) b.0 b.1 m.0 m.1 in
     (refl, (let_in q.lets.a (let_in q.lets.b (up_beyond q.lets.e)), (q.lets, tt, tt, refl), omega (arith, q.inner_is, q.body_is, q.end_is, new_size q.lets.a q.lets.b q.lets.e)))
 
-pub overflow-sub-inner : goal.overflow-sub-inner
-overflow-sub-inner c =
+pub overflow_sub-inner : goal.overflow_sub-inner
+overflow_sub-inner c =
     let s = spelled c.requires.row c.requires.lawful c.requires.reads in
     let b = c.in-Some.ensures c.requires.row s in
-    let m = c.in-Some-let-body.ensures b.0.a (bound_at s b.0) in
+    let m = c.in-Some-let_body.ensures b.0.a (bound_at s b.0) in
     let q = spread s (spelled_size c.requires.row c.requires.reads) b.0 b.1 m.0 m.1 in
     omega (arith, q.inner_is, q.body_is, q.end_is)
 
@@ -56,24 +56,24 @@ pub copy-requires : goal.copy-requires
 copy-requires c =
     let s = spelled c.requires.row c.requires.lawful c.requires.reads in
     let b = c.in-Some.ensures c.requires.row s in
-    let m = c.in-Some-let-body.ensures b.0.a (bound_at s b.0) in
+    let m = c.in-Some-let_body.ensures b.0.a (bound_at s b.0) in
     let q = spread s (spelled_size c.requires.row c.requires.reads) b.0 b.1 m.0 m.1 in
     let z = length-set c.args.space.now 0 10232741303339188224 in
     (omega (arith, q.inner_is, q.body_is, q.end_is), omega (arith, q.inner_is, q.body_is, q.end_is))
 
-pub overflow-sub-space : goal.overflow-sub-space
-overflow-sub-space c =
+pub overflow_sub-space : goal.overflow_sub-space
+overflow_sub-space c =
     let s = spelled c.requires.row c.requires.lawful c.requires.reads in
     let b = c.in-Some.ensures c.requires.row s in
-    let m = c.in-Some-let-body.ensures b.0.a (bound_at s b.0) in
+    let m = c.in-Some-let_body.ensures b.0.a (bound_at s b.0) in
     let q = spread s (spelled_size c.requires.row c.requires.reads) b.0 b.1 m.0 m.1 in
     omega (arith, q.inner_is, q.body_is, q.end_is)
 
-pub offset-bounds-space-inner : goal.offset-bounds-space-inner
-offset-bounds-space-inner c =
+pub offset_bounds-space-inner : goal.offset_bounds-space-inner
+offset_bounds-space-inner c =
     let s = spelled c.requires.row c.requires.lawful c.requires.reads in
     let b = c.in-Some.ensures c.requires.row s in
-    let m = c.in-Some-let-body.ensures b.0.a (bound_at s b.0) in
+    let m = c.in-Some-let_body.ensures b.0.a (bound_at s b.0) in
     let q = spread s (spelled_size c.requires.row c.requires.reads) b.0 b.1 m.0 m.1 in
     omega (arith, q.inner_is, q.body_is, q.end_is)
 
@@ -81,16 +81,16 @@ pub bounds-space-inner : goal.bounds-space-inner
 bounds-space-inner c =
     let s = spelled c.requires.row c.requires.lawful c.requires.reads in
     let b = c.in-Some.ensures c.requires.row s in
-    let m = c.in-Some-let-body.ensures b.0.a (bound_at s b.0) in
+    let m = c.in-Some-let_body.ensures b.0.a (bound_at s b.0) in
     let q = spread s (spelled_size c.requires.row c.requires.reads) b.0 b.1 m.0 m.1 in
     let z = length-set c.args.space.now 0 10232741303339188224 in
     omega (arith, q.inner_is, q.body_is, q.end_is)
 
-pub overflow-sub-body : goal.overflow-sub-body
-overflow-sub-body c =
+pub overflow_sub-body : goal.overflow_sub-body
+overflow_sub-body c =
     let s = spelled c.requires.row c.requires.lawful c.requires.reads in
     let b = c.in-Some.ensures c.requires.row s in
-    let m = c.in-Some-let-body.ensures b.0.a (bound_at s b.0) in
+    let m = c.in-Some-let_body.ensures b.0.a (bound_at s b.0) in
     let q = spread s (spelled_size c.requires.row c.requires.reads) b.0 b.1 m.0 m.1 in
     omega (arith, q.inner_is, q.body_is, q.end_is)
 
@@ -98,20 +98,20 @@ pub copy-requires-2 : goal.copy-requires-2
 copy-requires-2 c =
     let s = spelled c.requires.row c.requires.lawful c.requires.reads in
     let b = c.in-Some.ensures c.requires.row s in
-    let m = c.in-Some-let-body.ensures b.0.a (bound_at s b.0) in
+    let m = c.in-Some-let_body.ensures b.0.a (bound_at s b.0) in
     let q = spread s (spelled_size c.requires.row c.requires.reads) b.0 b.1 m.0 m.1 in
     let z = length-set c.args.space.now 0 10232741303339188224 in
-    let y = length-set c.copy.new.out (c.in-Some-let-body.inner - 1) 10232741303339188224 in
+    let y = length-set c.copy.new.out (c.in-Some-let_body.inner - 1) 10232741303339188224 in
     (omega (arith, q.inner_is, q.body_is, q.end_is), omega (arith, q.inner_is, q.body_is, q.end_is))
 
-pub rename-row-end-requires : goal.rename-row-end-requires
-rename-row-end-requires c =
+pub rename_row-end-requires : goal.rename_row-end-requires
+rename_row-end-requires c =
     let s = spelled c.requires.row c.requires.lawful c.requires.reads in
     let b = c.in-Some.ensures c.requires.row s in
-    let m = c.in-Some-let-body.ensures b.0.a (bound_at s b.0) in
+    let m = c.in-Some-let_body.ensures b.0.a (bound_at s b.0) in
     let q = spread s (spelled_size c.requires.row c.requires.reads) b.0 b.1 m.0 m.1 in
     let z = length-set c.args.space.now 0 10232741303339188224 in
-    let y = length-set c.copy.new.out (c.in-Some-let-body.inner - 1) 10232741303339188224 in
+    let y = length-set c.copy.new.out (c.in-Some-let_body.inner - 1) 10232741303339188224 in
     record {
       row = record { row = q.lets.e; stands = q.third; small = omega (arith, q.inner_is, q.body_is, q.end_is) };
       fits = omega (arith, q.inner_is, q.body_is, q.end_is);
@@ -123,7 +123,7 @@ pub returns : goal.returns
 returns c = λ t h e.
     let s = spelled t h e in
     let b = c.in-Some.ensures t s in
-    let m = c.in-Some-let-body.ensures b.0.a (bound_at s b.0) in
+    let m = c.in-Some-let_body.ensures b.0.a (bound_at s b.0) in
     let q = spread s (spelled_size t e) b.0 b.1 m.0 m.1 in
     let a = q.lets.a in
     let i = q.inner_is in
@@ -134,8 +134,8 @@ returns c = λ t h e.
     let z = flat_size (up_beyond q.lets.e) in
     let w = rename_size beyond 0 0 q.lets.e in
     let first = filled_more (filled_none c.args.space.now) _ (cell 35 1 2 0 ∷ []) 0 1 refl refl refl in
-    let second = filled_more first c.copy.new.out (flat a) 1 (size a) refl x (c.copy.ensures ∙ ap (over _ 1) (stands_cells q.first (c.in-Some-let-body.inner - 2) (omega arith))) in
-    let third = filled_more second _ (cell 35 1 2 0 ∷ []) (c.in-Some-let-body.inner - 1) 1 (omega arith) refl refl in
-    let fourth = filled_more third c.copy-2.new.out (flat q.lets.b) c.in-Some-let-body.inner (size q.lets.b) (omega arith) y (c.copy-2.ensures ∙ ap (over _ c.in-Some-let-body.inner) (stands_cells q.second (c.in-Some.body - c.in-Some-let-body.inner) (omega arith))) in
-    let fifth = filled_more fourth c.rename-row-end.new.out (flat (up_beyond q.lets.e)) c.in-Some.body (size q.lets.e) (omega arith) (z ∙ w) (c.rename-row-end.ensures.wrote q.lets.e q.third) in
+    let second = filled_more first c.copy.new.out (flat a) 1 (size a) refl x (c.copy.ensures ∙ ap (over _ 1) (stands_cells q.first (c.in-Some-let_body.inner - 2) (omega arith))) in
+    let third = filled_more second _ (cell 35 1 2 0 ∷ []) (c.in-Some-let_body.inner - 1) 1 (omega arith) refl refl in
+    let fourth = filled_more third c.copy-2.new.out (flat q.lets.b) c.in-Some-let_body.inner (size q.lets.b) (omega arith) y (c.copy-2.ensures ∙ ap (over _ c.in-Some-let_body.inner) (stands_cells q.second (c.in-Some.body - c.in-Some-let_body.inner) (omega arith))) in
+    let fifth = filled_more fourth c.rename_row-end.new.out (flat (up_beyond q.lets.e)) c.in-Some.body (size q.lets.e) (omega arith) (z ∙ w) (c.rename_row-end.ensures.wrote q.lets.e q.third) in
     wrote_filled _ (let_in a (let_in q.lets.b (up_beyond q.lets.e))) _ (q.lets, tt, tt, refl) fifth (new_cells a q.lets.b q.lets.e) (omega arith) (omega arith)

@@ -25,8 +25,8 @@ new_size h before e after =
 new_cells : (h : ℕ) (before e after : Row) → (((((cell 35 1 2 0 ∷ []) ++ flat e) ++ h ∷ []) ++ flat (up before)) ++ 0 ∷ []) ++ flat (up after) ≡ flat (moved_out h before e after)
 new_cells h before e after = simp (flat-&, append_assoc, append-nil)
 
-pub offset-bounds-redex-child : goal.offset-bounds-redex-child
-offset-bounds-redex-child c =
+pub offset_bounds-redex-child : goal.offset_bounds-redex-child
+offset_bounds-redex-child c =
     let s = spelled c.requires.row c.requires.lawful c.requires.reads in
     let b = c.in-Some.ensures c.requires.row c.requires.lawful c.requires.reads in
     let q = placed s (spelled_size c.requires.row c.requires.reads) b.0 b.1 b.2 in
@@ -39,12 +39,12 @@ bounds-redex-child c =
     let q = placed s (spelled_size c.requires.row c.requires.reads) b.0 b.1 b.2 in
     omega arith
 
-pub returns-then-not-is-moved : goal.returns-then-not-is-moved
-returns-then-not-is-moved c = λ t h e.
+pub returns-then-not-is_moved : goal.returns-then-not-is_moved
+returns-then-not-is_moved c = λ t h e.
     let s = spelled t h e in
     let b = c.in-Some.ensures t h e in
     let q = placed s (spelled_size t e) b.0 b.1 b.2 in
-    let no = not_from_Decides _ c.is-moved.ensures c.if-not-is-moved.true in
+    let no = not_from_Decides _ c.is_moved.ensures c.if-not-is_moved.true in
     let k = kind_here q.carries.e q.child in
     (refl, (q.carries, λ l yes. no (subst (λ n. (n ≡ 33) ⊎ (n ≡ 35)) (ap kind_of (carries_same l q.carries).1 ∙ k) yes)))
 
@@ -54,7 +54,7 @@ returns-then-count-space c = λ t h e.
     let b = c.in-Some.ensures t h e in
     let q = placed s (spelled_size t e) b.0 b.1 b.2 in
     let l = q.carries in
-    let yes = subst (λ n. (n ≡ 33) ⊎ (n ≡ 35)) (sym (kind_here l.e q.child)) (c.is-moved.ensures.0 c.if-not-is-moved.false) in
+    let yes = subst (λ n. (n ≡ 33) ⊎ (n ≡ 35)) (sym (kind_here l.e q.child)) (c.is_moved.ensures.0 c.if-not-is_moved.false) in
     let n = new_size l.h l.before l.e l.after in
     (refl, (moved_out l.h l.before l.e l.after, (l, yes, tt, refl), omega arith))
 
@@ -66,8 +66,8 @@ copy-requires c =
     let z = length-set c.args.space.now 0 10232741303339188224 in
     (omega arith, omega arith)
 
-pub offset-bounds-space-head : goal.offset-bounds-space-head
-offset-bounds-space-head c =
+pub offset_bounds-space-head : goal.offset_bounds-space-head
+offset_bounds-space-head c =
     let s = spelled c.requires.row c.requires.lawful c.requires.reads in
     let b = c.in-Some.ensures c.requires.row c.requires.lawful c.requires.reads in
     let q = placed s (spelled_size c.requires.row c.requires.reads) b.0 b.1 b.2 in
@@ -81,15 +81,15 @@ bounds-space-head c =
     let z = length-set c.args.space.now 0 10232741303339188224 in
     omega arith
 
-pub overflow-add-head-2 : goal.overflow-add-head-2
-overflow-add-head-2 c =
+pub overflow_add-head-2 : goal.overflow_add-head-2
+overflow_add-head-2 c =
     let s = spelled c.requires.row c.requires.lawful c.requires.reads in
     let b = c.in-Some.ensures c.requires.row c.requires.lawful c.requires.reads in
     let q = placed s (spelled_size c.requires.row c.requires.reads) b.0 b.1 b.2 in
     omega arith
 
-pub rename-row-e-requires : goal.rename-row-e-requires
-rename-row-e-requires c =
+pub rename_row-e-requires : goal.rename_row-e-requires
+rename_row-e-requires c =
     let s = spelled c.requires.row c.requires.lawful c.requires.reads in
     let b = c.in-Some.ensures c.requires.row c.requires.lawful c.requires.reads in
     let q = placed s (spelled_size c.requires.row c.requires.reads) b.0 b.1 b.2 in
@@ -102,15 +102,15 @@ rename-row-e-requires c =
       mild = omega arith;
     }
 
-pub overflow-add-space : goal.overflow-add-space
-overflow-add-space c =
+pub overflow_add-space : goal.overflow_add-space
+overflow_add-space c =
     let s = spelled c.requires.row c.requires.lawful c.requires.reads in
     let b = c.in-Some.ensures c.requires.row c.requires.lawful c.requires.reads in
     let q = placed s (spelled_size c.requires.row c.requires.reads) b.0 b.1 b.2 in
     omega arith
 
-pub offset-bounds-space-head-2 : goal.offset-bounds-space-head-2
-offset-bounds-space-head-2 c =
+pub offset_bounds-space-head-2 : goal.offset_bounds-space-head-2
+offset_bounds-space-head-2 c =
     let s = spelled c.requires.row c.requires.lawful c.requires.reads in
     let b = c.in-Some.ensures c.requires.row c.requires.lawful c.requires.reads in
     let q = placed s (spelled_size c.requires.row c.requires.reads) b.0 b.1 b.2 in
@@ -125,42 +125,42 @@ bounds-space-head-2 c =
     let y = length-set c.copy.new.out (c.in-Some.child.end - c.in-Some.child.start + 1) (get_or c.args.redex.now 0 0) in
     omega arith
 
-pub overflow-sub-after : goal.overflow-sub-after
-overflow-sub-after c =
+pub overflow_sub-after : goal.overflow_sub-after
+overflow_sub-after c =
     let s = spelled c.requires.row c.requires.lawful c.requires.reads in
     let b = c.in-Some.ensures c.requires.row c.requires.lawful c.requires.reads in
     let q = placed s (spelled_size c.requires.row c.requires.reads) b.0 b.1 b.2 in
     omega (arith, c.children.ensures)
 
-pub overflow-sub-after-2 : goal.overflow-sub-after-2
-overflow-sub-after-2 c =
+pub overflow_sub-after-2 : goal.overflow_sub-after-2
+overflow_sub-after-2 c =
     let s = spelled c.requires.row c.requires.lawful c.requires.reads in
     let b = c.in-Some.ensures c.requires.row c.requires.lawful c.requires.reads in
     let q = placed s (spelled_size c.requires.row c.requires.reads) b.0 b.1 b.2 in
     omega (arith, c.children.ensures)
 
-pub overflow-add-to : goal.overflow-add-to
-overflow-add-to c =
+pub overflow_add-to : goal.overflow_add-to
+overflow_add-to c =
     let s = spelled c.requires.row c.requires.lawful c.requires.reads in
     let b = c.in-Some.ensures c.requires.row c.requires.lawful c.requires.reads in
     let q = placed s (spelled_size c.requires.row c.requires.reads) b.0 b.1 b.2 in
     omega arith
 
-pub overflow-add-to-2 : goal.overflow-add-to-2
-overflow-add-to-2 c =
+pub overflow_add-to-2 : goal.overflow_add-to-2
+overflow_add-to-2 c =
     let s = spelled c.requires.row c.requires.lawful c.requires.reads in
     let b = c.in-Some.ensures c.requires.row c.requires.lawful c.requires.reads in
     let q = placed s (spelled_size c.requires.row c.requires.reads) b.0 b.1 b.2 in
     omega arith
 
-pub rename-row-e-requires-2 : goal.rename-row-e-requires-2
-rename-row-e-requires-2 c =
+pub rename_row-e-requires-2 : goal.rename_row-e-requires-2
+rename_row-e-requires-2 c =
     let s = spelled c.requires.row c.requires.lawful c.requires.reads in
     let b = c.in-Some.ensures c.requires.row c.requires.lawful c.requires.reads in
     let q = placed s (spelled_size c.requires.row c.requires.reads) b.0 b.1 b.2 in
     let z = length-set c.args.space.now 0 10232741303339188224 in
     let y = length-set c.copy.new.out (c.in-Some.child.end - c.in-Some.child.start + 1) (get_or c.args.redex.now 0 0) in
-    let x = length-set c.rename-row-e.new.out (c.in-Some.child.end - c.in-Some.child.start + 1 + c.in-Some.child.start) 0 in
+    let x = length-set c.rename_row-e.new.out (c.in-Some.child.end - c.in-Some.child.start + 1 + c.in-Some.child.start) 0 in
     record {
       row = record { row = q.carries.after; stands = moved q.right (omega (arith, c.children.ensures)) refl; small = omega arith };
       fits = omega arith;
@@ -176,15 +176,15 @@ returns c = λ t h e.
     let l = q.carries in
     let start = c.in-Some.child.start in
     let end = c.in-Some.child.end in
-    let yes = subst (λ n. (n ≡ 33) ⊎ (n ≡ 35)) (sym (kind_here l.e q.child)) (c.is-moved.ensures.0 c.if-not-is-moved.false) in
+    let yes = subst (λ n. (n ≡ 33) ⊎ (n ≡ 35)) (sym (kind_here l.e q.child)) (c.is_moved.ensures.0 c.if-not-is_moved.false) in
     let i = flat_size l.e in
     let j = flat_size (up l.before) ∙ rename_size (λ x. x + 1) 0 0 l.before in
     let k = flat_size (up l.after) ∙ rename_size (λ x. x + 1) 0 0 l.after in
     let first = filled_more (filled_none c.args.space.now) _ (cell 35 1 2 0 ∷ []) 0 1 refl refl refl in
     let second = filled_more first c.copy.new.out (flat l.e) 1 (size l.e) refl i (c.copy.ensures ∙ ap (over _ 1) (stands_cells q.child.stands (end - start) (omega arith))) in
     let third = filled_more second _ (get_or c.args.redex.now 0 0 ∷ []) (end - start + 1) 1 (omega arith) refl refl in
-    let fourth = filled_more third c.rename-row-e.new.out (flat (up l.before)) (end - start + 1 + 1) (size l.before) (omega arith) j (c.rename-row-e.ensures.wrote l.before q.left) in
+    let fourth = filled_more third c.rename_row-e.new.out (flat (up l.before)) (end - start + 1 + 1) (size l.before) (omega arith) j (c.rename_row-e.ensures.wrote l.before q.left) in
     let fifth = filled_more fourth _ (0 ∷ []) (end - start + 1 + start) 1 (omega arith) refl refl in
-    let last = filled_more fifth c.rename-row-e-2.new.out (flat (up l.after)) (end - start + 1 + start + 1) (size l.after) (omega arith) k (c.rename-row-e-2.ensures.wrote l.after (moved q.right (omega (arith, c.children.ensures)) refl)) in
+    let last = filled_more fifth c.rename_row-e-2.new.out (flat (up l.after)) (end - start + 1 + start + 1) (size l.after) (omega arith) k (c.rename_row-e-2.ensures.wrote l.after (moved q.right (omega (arith, c.children.ensures)) refl)) in
     let cells = ap (λ x. (((((cell 35 1 2 0 ∷ []) ++ flat l.e) ++ x ∷ []) ++ flat (up l.before)) ++ 0 ∷ []) ++ flat (up l.after)) (sym q.head_is) ∙ new_cells l.h l.before l.e l.after in
     wrote_filled _ (moved_out l.h l.before l.e l.after) _ (l, yes, tt, refl) last cells (omega arith) (omega arith)

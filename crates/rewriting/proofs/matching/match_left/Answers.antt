@@ -8,8 +8,8 @@ use Rattle.rewriting.proofs.matching.match_left.Goals.{then-kind-eq-VARIABLE, el
 pub loop-c-init : goal.loop-c-init
 loop-c-init c = (omega arith, λ p ts f. going_start _ f)
 
-pub end-of-end-requires : goal.end-of-end-requires
-end-of-end-requires c =
+pub end_of-end-requires : goal.end_of-end-requires
+end_of-end-requires c =
     let f = c.requires.2 in
     let g = going_front (c.loop-c.invariant.1 c.requires.0 c.requires.1 f) (omega arith) in
     (_, variable_term g.half (omega arith) (omega (arith, c.kind.ensures)))
@@ -21,8 +21,8 @@ bounds-spans-payload c =
     let b = variable_below g.half (omega arith) (omega (arith, c.kind.ensures)) f.once in
     omega (arith, c.payload.ensures, b, f.few)
 
-pub offset-bounds-subject-at : goal.offset-bounds-subject-at
-offset-bounds-subject-at c =
+pub offset_bounds-subject-at : goal.offset_bounds-subject-at
+offset_bounds-subject-at c =
     let g = going_front (c.loop-c.invariant.1 c.requires.0 c.requires.1 c.requires.2) (omega arith) in
     let b = first_below g.half (omega arith) in
     omega arith
@@ -37,8 +37,8 @@ returns-then-subject-at c = λ p ts f.
     let g = going_front (c.loop-c.invariant.1 p ts f) (omega arith) in
     other_cell g.half (omega arith) (λ k. omega (arith, k, c.kind.ensures)) c.if-subject-at.true
 
-pub overflow-add-at : goal.overflow-add-at
-overflow-add-at c =
+pub overflow_add-at : goal.overflow_add-at
+overflow_add-at c =
     let g = going_front (c.loop-c.invariant.1 c.requires.0 c.requires.1 c.requires.2) (omega arith) in
     let b = first_below g.half (omega arith) in
     omega arith
@@ -51,9 +51,9 @@ loop-c-preserved c =
         λ p ts f.
             let g = going_front (c.loop-c.invariant.1 p ts f) (omega arith) in
             let k : kind (get_or c.args.patterns.now c.loop-c.c-index 0) ≡ 0 = omega (arith, c.kind.ensures, w.if-kind-eq-VARIABLE.true) in
-            let e = w.end-of-end.ensures _ (variable_term g.half (omega arith) k) in
-            let v = variable_passed g.half (omega arith) k f.once w.end-of-end.result (omega (arith, f.few)) e in
-            going_as v (w.spans-is ∙ ap (λ x. set c.loop-c.spans x (span c.loop-c.at w.end-of-end.result)) w.payload.ensures) refl w.at-is w.n-is,
+            let e = w.end_of-end.ensures _ (variable_term g.half (omega arith) k) in
+            let v = variable_passed g.half (omega arith) k f.once w.end_of-end.result (omega (arith, f.few)) e in
+            going_as v (w.spans-is ∙ ap (λ x. set c.loop-c.spans x (span c.loop-c.at w.end_of-end.result)) w.payload.ensures) refl w.at-is w.n-is,
       )
       | else-kind-eq-VARIABLE+else-subject-at w ↦ (
         omega (arith, w.n-is),

@@ -13,9 +13,9 @@ pub loop-call-init : goal.loop-call-init
 loop-call-init g c =
     gone_none g.C.Calculus.meaning c.new-run.result c.args.table.now c.args.scratch.now c.args.walk.now c.args.calls.now _ c.new-run.ensures.fresh c.new-said.ensures.items
 
-pub returns-in-err-push : goal.returns-in-err-push
-returns-in-err-push g c =
-    let p = err_from_is_err_and c.from-residual.result c.from-residual.ensures.1 in
+pub returns-in_err-push : goal.returns-in_err-push
+returns-in_err-push g c =
+    let p = err_from_is_err_and c.from_residual.result c.from_residual.ensures.1 in
     let l = c.loop-call in
     let gone = gone_more g.C.Calculus.meaning c.new-run.result l.run c.make-answer.new.run c.args.table.now l.table c.make-answer.new.table c.args.scratch.now l.scratch c.args.walk.now l.walk c.args.calls.now l.call-index blank (vec_items l.said) c.make-answer.result c.tell-tells.result l.invariant l.auto.table l.auto.scratch l.auto.walk c.make-answer.auto.table c.loop-call-test.true c.make-answer.ensures c.tell-tells.ensures in
     rw p.1 (part_made g.C.Calculus.meaning g.met.C.Calculus.laws c.args.calculus c.new-run.result c.make-answer.new.run c.args.table.now c.make-answer.new.table c.args.scratch.now c.args.walk.now c.args.calls.now (l.call-index + 1) _ c.new-run.ensures.same (c.new-run.ensures.fresh c.args.table.now) gone)

@@ -5,22 +5,22 @@ use Rattle.runs.specs.Calls.{lent_of}
 use Rattle.runs.proofs.Calling.{open_at_1, open_refused, open_accepted}
 use Rattle.runs.proofs.run.Run.open.Goals as goal
 
-pub returns-then-not-is-enough : goal.returns-then-not-is-enough
-returns-then-not-is-enough g c =
+pub returns-then-not-is_enough : goal.returns-then-not-is_enough
+returns-then-not-is_enough g c =
     let little : Enough (lent_of c.args.table.now c.args.scratch.now c.args.walk.now) → ⊥ = search rules in
     open_at_1 (g.C.Calculus.meaning c.args.self.now.calculus) c.args.self.now c.args.table.now c.args.scratch.now c.args.walk.now little c.args.start.now
 
-pub returns-in-err-turn : goal.returns-in-err-turn
-returns-in-err-turn g c =
-    let p = err_from_is_err_and c.from-residual.result c.from-residual.ensures.1 in
+pub returns-in_err-turn : goal.returns-in_err-turn
+returns-in_err-turn g c =
+    let p = err_from_is_err_and c.from_residual.result c.from_residual.ensures.1 in
     let enough : Enough (lent_of c.args.table.now c.args.scratch.now c.args.walk.now) = search rules in
     let zeros : c.drop-clean.new.self.0 ≡ replicate (length c.args.scratch.now) 0 = search rules in
-    let h = c.in-err-turn.ensures in
+    let h = c.in_err-turn.ensures in
     rw (p.1, p.2) (open_refused (g.C.Calculus.meaning c.args.self.now.calculus) c.args.self.now c.turn.new.self c.args.table.now c.args.scratch.now c.drop-clean.new.self.0 c.args.walk.now c.turn.new.walk enough zeros c.args.start.now _ h.0 h.1)
 
 pub returns : goal.returns
 returns g c =
     let enough : Enough (lent_of c.args.table.now c.args.scratch.now c.args.walk.now) = search rules in
     let zeros : c.drop-clean-2.new.self.0 ≡ replicate (length c.args.scratch.now) 0 = search rules in
-    let h = c.in-ok-turn.ensures in
+    let h = c.in_ok-turn.ensures in
     open_accepted (g.C.Calculus.meaning c.args.self.now.calculus) c.args.self.now c.turn.new.self c.args.table.now c.args.scratch.now c.drop-clean-2.new.self.0 c.args.walk.now c.turn.new.walk enough zeros c.args.start.now c.put.new.table h.0 h.1 c.put.ensures

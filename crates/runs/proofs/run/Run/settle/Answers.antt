@@ -4,8 +4,8 @@ use Rattle.runs.specs.Calls.{lent_of}
 use Rattle.runs.proofs.Calling.{settle_at_1, settle_refused, settle_accepted}
 use Rattle.runs.proofs.run.Run.settle.Goals as goal
 
-pub returns-then-not-is-enough : goal.returns-then-not-is-enough
-returns-then-not-is-enough g c =
+pub returns-then-not-is_enough : goal.returns-then-not-is_enough
+returns-then-not-is_enough g c =
     let little : Enough (lent_of c.args.table.now c.args.scratch.now c.args.walk.now) → ⊥ = search rules in
     settle_at_1 (g.C.Calculus.meaning c.args.self.now.calculus) c.args.self.now c.args.table.now c.args.scratch.now c.args.walk.now little c.args.ticket c.args.claim.now
 
