@@ -6,25 +6,25 @@ use Rattle.verse_rules.proofs.Makes.{refused, written, nothing, lay, copied, mad
 use Rattle.verse_rules.proofs.Sames.{same_two}
 use Rattle.verse_rules.proofs.choice.choose_assoc.Goals as goal
 
-pub returns-in-err-left : goal.returns-in-err-left
-returns-in-err-left c = λ t inner h e.
-    let n = c.in-err-left.ensures exp t (c.whole.ensures t h e) in
-    refused _ _ _ _ c.from-residual.ensures.1 n.0 (λ l. n.1 (choice l.e₁ l.e₂) l.e₃ l.is)
+pub returns-in_err-left : goal.returns-in_err-left
+returns-in_err-left c = λ t inner h e.
+    let n = c.in_err-left.ensures exp t (c.whole.ensures t h e) in
+    refused _ _ _ _ c.from_residual.ensures.1 n.0 (λ l. n.1 (choice l.e₁ l.e₂) l.e₃ l.is)
 
-pub returns-in-err-e1 : goal.returns-in-err-e1
-returns-in-err-e1 c = λ t inner h e.
-    let p = c.in-ok-left.ensures exp t (c.whole.ensures t h e) in
-    let n = c.in-err-e1.ensures exp p.0 p.3 in
-    refused _ _ _ _ c.from-residual-in-err-e1.ensures.1 n.0 (λ l. n.1 l.e₁ l.e₂ (same_two (choice l.e₁ l.e₂) l.e₃ p.2 p.3 l.is refl).0)
+pub returns-in_err-e1 : goal.returns-in_err-e1
+returns-in_err-e1 c = λ t inner h e.
+    let p = c.in_ok-left.ensures exp t (c.whole.ensures t h e) in
+    let n = c.in_err-e1.ensures exp p.0 p.3 in
+    refused _ _ _ _ c.from_residual-in_err-e1.ensures.1 n.0 (λ l. n.1 l.e₁ l.e₂ (same_two (choice l.e₁ l.e₂) l.e₃ p.2 p.3 l.is refl).0)
 
 pub give-requires : goal.give-requires
 give-requires c =
-    let p = c.in-ok-left.ensures exp c.requires.0 (c.whole.ensures c.requires.0 c.requires.1 c.requires.2) in
-    let q = c.in-ok-e1.ensures exp p.0 p.3 in
+    let p = c.in_ok-left.ensures exp c.requires.0 (c.whole.ensures c.requires.0 c.requires.1 c.requires.2) in
+    let q = c.in_ok-e1.ensures exp p.0 p.3 in
     (choice q.0 (choice q.1 p.1), made (lay (copied (lay (copied (copied (nothing _) p.1 _ _ p.4.lies c.copy-3.ensures) q.1 _ _ q.4.lies c.copy-2.ensures) _) q.0 _ _ q.3.lies c.copy.ensures) _) (choice q.0 (choice q.1 p.1)) (simp (flat-&, append-nil, append_assoc)))
 
 pub returns : goal.returns
 returns c = λ t inner h e.
-    let p = c.in-ok-left.ensures exp t (c.whole.ensures t h e) in
-    let q = c.in-ok-e1.ensures exp p.0 p.3 in
+    let p = c.in_ok-left.ensures exp t (c.whole.ensures t h e) in
+    let q = c.in_ok-e1.ensures exp p.0 p.3 in
     written _ (choice q.0 (choice q.1 p.1)) _ _ _ (record { e₁ = q.0; e₂ = q.1; e₃ = p.1; letters = (q.3.lawful, q.4.lawful, p.4.lawful); is = p.2 ∙ ap (λ x. choice x p.1) q.2 }, tt, tt, refl) (c.give.ensures (choice q.0 (choice q.1 p.1)) (made (lay (copied (lay (copied (copied (nothing _) p.1 _ _ p.4.lies c.copy-3.ensures) q.1 _ _ q.4.lies c.copy-2.ensures) _) q.0 _ _ q.3.lies c.copy.ensures) _) (choice q.0 (choice q.1 p.1)) (simp (flat-&, append-nil, append_assoc))))

@@ -7,26 +7,26 @@ use Rattle.verse_rules.proofs.Lawfuls.{erred}
 use Rattle.verse_rules.proofs.Sames.{same_three}
 use Rattle.verse_rules.proofs.forms.binding.Goals as goal
 
-pub returns-in-err-a : goal.returns-in-err-a
-returns-in-err-a c = λ s t h.
-    let n = c.in-err-a.ensures s t h in
-    erred (Bound t c.args.cells.now) _ _ c.from-residual.ensures.1 n.0 (refl, λ l. n.1 (var l.x) l.v l.e l.is)
+pub returns-in_err-a : goal.returns-in_err-a
+returns-in_err-a c = λ s t h.
+    let n = c.in_err-a.ensures s t h in
+    erred (Bound t c.args.cells.now) _ _ c.from_residual.ensures.1 n.0 (refl, λ l. n.1 (var l.x) l.v l.e l.is)
 
-pub returns-in-err-x : goal.returns-in-err-x
-returns-in-err-x c = λ s t h.
-    let p = c.in-ok-a.ensures s t h in
-    let n = c.in-err-x.ensures val p.0 p.4 in
-    erred (Bound t c.args.cells.now) _ _ c.from-residual-in-err-x.ensures.1 n.0 (refl, λ l. n.1 l.x l.letters.0 (same_three (var l.x) l.v l.e p.3 p.4 l.is refl).0)
+pub returns-in_err-x : goal.returns-in_err-x
+returns-in_err-x c = λ s t h.
+    let p = c.in_ok-a.ensures s t h in
+    let n = c.in_err-x.ensures val p.0 p.4 in
+    erred (Bound t c.args.cells.now) _ _ c.from_residual-in_err-x.ensures.1 n.0 (refl, λ l. n.1 l.x l.letters.0 (same_three (var l.x) l.v l.e p.3 p.4 l.is refl).0)
 
-pub returns-in-err-value : goal.returns-in-err-value
-returns-in-err-value c = λ s t h.
-    let p = c.in-ok-a.ensures s t h in
-    let n = c.in-err-value.ensures exp p.1 p.5 in
-    erred (Bound t c.args.cells.now) _ _ c.from-residual-in-err-value.ensures.1 n.0 (refl, λ l. n.1 (subst Val (sym (same_three (var l.x) l.v l.e p.3 p.4 l.is refl).1) l.letters.1))
+pub returns-in_err-value : goal.returns-in_err-value
+returns-in_err-value c = λ s t h.
+    let p = c.in_ok-a.ensures s t h in
+    let n = c.in_err-value.ensures exp p.1 p.5 in
+    erred (Bound t c.args.cells.now) _ _ c.from_residual-in_err-value.ensures.1 n.0 (refl, λ l. n.1 (subst Val (sym (same_three (var l.x) l.v l.e p.3 p.4 l.is refl).1) l.letters.1))
 
 pub returns : goal.returns
 returns c = λ s t h.
-    let p = c.in-ok-a.ensures s t h in
-    let x = c.in-ok-x.ensures val p.0 p.4 in
-    let v = c.in-ok-value.ensures exp p.1 p.5 in
+    let p = c.in_ok-a.ensures s t h in
+    let x = c.in_ok-x.ensures val p.0 p.4 in
+    let v = c.in_ok-value.ensures exp p.1 p.5 in
     (p.1, p.2, x.0, p.3 ∙ ap (λ y. seq (eqn y p.1) p.2) x.1, v, p.6)

@@ -1,5 +1,5 @@
 use Rattle.std.proofs.Common.{◌-◌, length}
 use Rattle.verse_rules.proofs.lying.+clear_of.Given as goal
 
-abbrev pub decreases-clear-of : goal.decreases-clear-of
-decreases-clear-of l = length l.cells.now - l.at
+abbrev pub decreases-clear_of : goal.decreases-clear_of
+decreases-clear_of l = length l.cells.now - l.at

@@ -9,13 +9,13 @@ use Rattle.verse_rules.proofs.Lawfuls.{equated}
 use Rattle.verse_rules.proofs.Sames.{same_two}
 use Rattle.verse_rules.proofs.lying.early.Goals as goal
 
-pub returns-in-default : goal.returns-in-default
-returns-in-default c = λ q h. (λ k. absurd (false≢true k), λ r. absurd (c.in-default.ensures q h.lies (var r.0) r.1 r.4))
+pub returns-in_default : goal.returns-in_default
+returns-in_default c = λ q h. (λ k. absurd (false≢true k), λ r. absurd (c.in_default.ensures q h.lies (var r.0) r.1 r.4))
 
-pub returns-in-default-variable : goal.returns-in-default-variable
-returns-in-default-variable c = λ q h.
+pub returns-in_default-variable : goal.returns-in_default-variable
+returns-in_default-variable c = λ q h.
     let w = equated q _ _ _ _ h (c.in-Some.ensures q h.lies) in
-    let n = c.in-default-variable.ensures val w.0 w.3 in
+    let n = c.in_default-variable.ensures val w.0 w.3 in
     (λ k. absurd (false≢true k), λ r. absurd (n.1 r.0 r.2 (same_two (var r.0) r.1 w.2 w.3 r.4 refl).0))
 
 pub returns-in-Ok-value : goal.returns-in-Ok-value

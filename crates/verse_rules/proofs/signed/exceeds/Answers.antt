@@ -4,4 +4,4 @@ use Rattle.verse_rules.proofs.signed.exceeds.Goals as goal
 
 pub returns : goal.returns
 returns c =
-    less_test _ _ _ _ (cast_back c.args.n c.cast-signed-2.result (omega arith) c.cast-signed-2.ensures) (cast_back c.args.m c.cast-signed.result (omega arith) c.cast-signed.ensures)
+    less_test _ _ _ _ (cast_back c.args.n c.cast_signed-2.result (omega arith) c.cast_signed-2.ensures) (cast_back c.args.m c.cast_signed.result (omega arith) c.cast_signed.ensures)

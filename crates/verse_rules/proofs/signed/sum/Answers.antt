@@ -4,13 +4,13 @@ use Rattle.verse_rules.proofs.signed.sum.Goals as goal
 
 pub returns-in-Some : goal.returns-in-Some
 returns-in-Some c =
-    let a = cast_back c.args.m c.cast-signed.result (omega arith) c.cast-signed.ensures in
-    let b = cast_back c.args.n c.cast-signed-2.result (omega arith) c.cast-signed-2.ensures in
+    let a = cast_back c.args.m c.cast_signed.result (omega arith) c.cast_signed.ensures in
+    let b = cast_back c.args.n c.cast_signed-2.result (omega arith) c.cast_signed-2.ensures in
     let h = c.in-Some.ensures in
-    cast_sum _ c.in-Some.k _ _ (ap₂ ◌+ℤ◌ a b) h.0 h.1 c.cast-unsigned.ensures
+    cast_sum _ c.in-Some.k _ _ (ap₂ ◌+ℤ◌ a b) h.0 h.1 c.cast_unsigned.ensures
 
 pub returns-in-None : goal.returns-in-None
 returns-in-None c = λ f.
-    let a = cast_back c.args.m c.cast-signed.result (omega arith) c.cast-signed.ensures in
-    let b = cast_back c.args.n c.cast-signed-2.result (omega arith) c.cast-signed-2.ensures in
+    let a = cast_back c.args.m c.cast_signed.result (omega arith) c.cast_signed.ensures in
+    let b = cast_back c.args.n c.cast_signed-2.result (omega arith) c.cast_signed-2.ensures in
     c.in-None.ensures (subst (SFits w32) (sym (ap₂ ◌+ℤ◌ a b)) f)

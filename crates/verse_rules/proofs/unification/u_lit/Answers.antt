@@ -6,31 +6,31 @@ use Rattle.verse_rules.proofs.Makes.{refused, written, nothing, copied, made}
 use Rattle.verse_rules.proofs.Sames.{same_three, two_leaves}
 use Rattle.verse_rules.proofs.unification.u_lit.Goals as goal
 
-pub returns-in-err-a : goal.returns-in-err-a
-returns-in-err-a c = λ t inner h e.
-    let n = c.in-err-a.ensures exp t (c.whole.ensures t h e) in
-    refused _ _ _ _ c.from-residual.ensures.1 n.0 (λ l. n.1 (int l.k₁) (int l.k₂) l.e l.is)
+pub returns-in_err-a : goal.returns-in_err-a
+returns-in_err-a c = λ t inner h e.
+    let n = c.in_err-a.ensures exp t (c.whole.ensures t h e) in
+    refused _ _ _ _ c.from_residual.ensures.1 n.0 (λ l. n.1 (int l.k₁) (int l.k₂) l.e l.is)
 
-pub returns-in-err-m : goal.returns-in-err-m
-returns-in-err-m c = λ t inner h e.
-    let p = c.in-ok-a.ensures exp t (c.whole.ensures t h e) in
-    let n = c.in-err-m.ensures val p.0 p.4 in
-    refused _ _ _ _ c.from-residual-in-err-m.ensures.1 n.0 (λ l. n.1 l.k₁ l.letters.0 (same_three (int l.k₁) (int l.k₂) l.e p.3 p.4 l.is refl).0)
+pub returns-in_err-m : goal.returns-in_err-m
+returns-in_err-m c = λ t inner h e.
+    let p = c.in_ok-a.ensures exp t (c.whole.ensures t h e) in
+    let n = c.in_err-m.ensures val p.0 p.4 in
+    refused _ _ _ _ c.from_residual-in_err-m.ensures.1 n.0 (λ l. n.1 l.k₁ l.letters.0 (same_three (int l.k₁) (int l.k₂) l.e p.3 p.4 l.is refl).0)
 
-pub returns-in-err-n : goal.returns-in-err-n
-returns-in-err-n c = λ t inner h e.
-    let p = c.in-ok-a.ensures exp t (c.whole.ensures t h e) in
-    let n = c.in-err-n.ensures exp p.1 p.5 in
-    refused _ _ _ _ c.from-residual-in-err-n.ensures.1 n.0 (λ l. n.1 l.k₂ l.letters.1 (same_three (int l.k₁) (int l.k₂) l.e p.3 p.4 l.is refl).1)
+pub returns-in_err-n : goal.returns-in_err-n
+returns-in_err-n c = λ t inner h e.
+    let p = c.in_ok-a.ensures exp t (c.whole.ensures t h e) in
+    let n = c.in_err-n.ensures exp p.1 p.5 in
+    refused _ _ _ _ c.from_residual-in_err-n.ensures.1 n.0 (λ l. n.1 l.k₂ l.letters.1 (same_three (int l.k₁) (int l.k₂) l.e p.3 p.4 l.is refl).1)
 
 pub returns-then-m-n : goal.returns-then-m-n
 returns-then-m-n c = λ t inner h e.
-    let p = c.in-ok-a.ensures exp t (c.whole.ensures t h e) in
-    let m = c.in-ok-m.ensures val p.0 p.4 in
-    let n = c.in-ok-n.ensures exp p.1 p.5 in (
+    let p = c.in_ok-a.ensures exp t (c.whole.ensures t h e) in
+    let m = c.in_ok-m.ensures val p.0 p.4 in
+    let n = c.in_ok-n.ensures exp p.1 p.5 in (
       refl,
       (
-        record { k₁ = c.in-ok-m.m; k₂ = c.in-ok-n.n; e = p.2; letters = (m.0, n.0, p.6.lawful); is = p.3 ∙ two_leaves p.2 m.1 n.1 },
+        record { k₁ = c.in_ok-m.m; k₂ = c.in_ok-n.n; e = p.2; letters = (m.0, n.0, p.6.lawful); is = p.3 ∙ two_leaves p.2 m.1 n.1 },
         λ l k.
             let s = same_three (int l.k₁) (int l.k₂) l.e p.3 p.4 l.is refl in
             let x = ap top (sym m.1 ∙ s.0) in
@@ -41,13 +41,13 @@ returns-then-m-n c = λ t inner h e.
 
 pub give-requires : goal.give-requires
 give-requires c =
-    let p = c.in-ok-a.ensures exp c.requires.0 (c.whole.ensures c.requires.0 c.requires.1 c.requires.2) in
+    let p = c.in_ok-a.ensures exp c.requires.0 (c.whole.ensures c.requires.0 c.requires.1 c.requires.2) in
     (p.2, made (copied (nothing _) p.2 _ _ p.6.lies c.copy.ensures) p.2 (append-nil _))
 
 pub returns : goal.returns
 returns c = λ t inner h e.
-    let p = c.in-ok-a.ensures exp t (c.whole.ensures t h e) in
-    let m = c.in-ok-m.ensures val p.0 p.4 in
-    let n = c.in-ok-n.ensures exp p.1 p.5 in
+    let p = c.in_ok-a.ensures exp t (c.whole.ensures t h e) in
+    let m = c.in_ok-m.ensures val p.0 p.4 in
+    let n = c.in_ok-n.ensures exp p.1 p.5 in
     let k = c.if-m-n.false in
-    written _ p.2 _ _ _ (record { k₁ = c.in-ok-m.m; k₂ = c.in-ok-n.n; e = p.2; letters = (m.0, n.0, p.6.lawful); is = p.3 ∙ two_leaves p.2 m.1 n.1 }, omega arith, tt, refl) (c.give.ensures p.2 (made (copied (nothing _) p.2 _ _ p.6.lies c.copy.ensures) p.2 (append-nil _)))
+    written _ p.2 _ _ _ (record { k₁ = c.in_ok-m.m; k₂ = c.in_ok-n.n; e = p.2; letters = (m.0, n.0, p.6.lawful); is = p.3 ∙ two_leaves p.2 m.1 n.1 }, omega arith, tt, refl) (c.give.ensures p.2 (made (copied (nothing _) p.2 _ _ p.6.lies c.copy.ensures) p.2 (append-nil _)))

@@ -7,26 +7,26 @@ use Rattle.verse.proofs.Unique.{same_binds}
 use Rattle.verse_rules.proofs.Makes.{refused, written, nothing, lay, made}
 use Rattle.verse_rules.proofs.unification.u_occurs.Goals as goal
 
-pub returns-in-err-x : goal.returns-in-err-x
-returns-in-err-x c = λ t inner h e.
-    let n = c.in-err-x.ensures exp t (c.whole.ensures t h e) in
-    refused _ _ _ _ c.from-residual.ensures.1 n.0 n.1
+pub returns-in_err-x : goal.returns-in_err-x
+returns-in_err-x c = λ t inner h e.
+    let n = c.in_err-x.ensures exp t (c.whole.ensures t h e) in
+    refused _ _ _ _ c.from_residual.ensures.1 n.0 n.1
 
-pub lies-deep-requires : goal.lies-deep-requires
-lies-deep-requires c =
-    let b = c.in-ok-x.ensures exp c.requires.0 (c.whole.ensures c.requires.0 c.requires.1 c.requires.2) in
+pub lies_deep-requires : goal.lies_deep-requires
+lies_deep-requires c =
+    let b = c.in_ok-x.ensures exp c.requires.0 (c.whole.ensures c.requires.0 c.requires.1 c.requires.2) in
     (b.0, b.4)
 
-pub returns-then-not-lies-deep : goal.returns-then-not-lies-deep
-returns-then-not-lies-deep c = λ t inner h e.
-    let b = c.in-ok-x.ensures exp t (c.whole.ensures t h e) in
-    let l : Binds t = record { x = c.in-ok-x.x; v = b.0; e = b.1; letters = (b.2, b.4.lawful, b.5.lawful); is = b.3 } in (
+pub returns-then-not-lies_deep : goal.returns-then-not-lies_deep
+returns-then-not-lies_deep c = λ t inner h e.
+    let b = c.in_ok-x.ensures exp t (c.whole.ensures t h e) in
+    let l : Binds t = record { x = c.in_ok-x.x; v = b.0; e = b.1; letters = (b.2, b.4.lawful, b.5.lawful); is = b.3 } in (
       refl,
       (
         l,
         λ m d.
             let s = same_binds t t refl m l in
-            false≢true ((c.if-not-lies-deep.ensures b.0 b.4).1 (subst (λ x. Deep x b.0) s.0 (subst (Deep m.x) s.1 d))),
+            false≢true ((c.if-not-lies_deep.ensures b.0 b.4).1 (subst (λ x. Deep x b.0) s.0 (subst (Deep m.x) s.1 d))),
       ),
     )
 
@@ -35,6 +35,6 @@ give-requires c = (fail, made (lay (nothing _) _) fail refl)
 
 pub returns : goal.returns
 returns c = λ t inner h e.
-    let b = c.in-ok-x.ensures exp t (c.whole.ensures t h e) in
-    let l : Binds t = record { x = c.in-ok-x.x; v = b.0; e = b.1; letters = (b.2, b.4.lawful, b.5.lawful); is = b.3 } in
-    written _ fail _ _ _ (l, (c.if-not-lies-deep.ensures b.0 b.4).0 refl, tt, refl) (c.give.ensures fail (made (lay (nothing _) _) fail refl))
+    let b = c.in_ok-x.ensures exp t (c.whole.ensures t h e) in
+    let l : Binds t = record { x = c.in_ok-x.x; v = b.0; e = b.1; letters = (b.2, b.4.lawful, b.5.lawful); is = b.3 } in
+    written _ fail _ _ _ (l, (c.if-not-lies_deep.ensures b.0 b.4).0 refl, tt, refl) (c.give.ensures fail (made (lay (nothing _) _) fail refl))

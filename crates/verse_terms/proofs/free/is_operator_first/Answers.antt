@@ -3,8 +3,8 @@ use Rattle.terms.proofs.Steps.{opened}
 use Rattle.verse.specs.Contexts.{operator_first}
 use Rattle.verse_terms.proofs.free.is_operator_first.Goals as goal
 
-pub offset-bounds-cells-at : goal.offset-bounds-cells-at
-offset-bounds-cells-at c = let o = opened c.requires.0 c.requires.1 (λ e. omega arith) in omega (arith, o.within, o.sized)
+pub offset_bounds-cells-at : goal.offset_bounds-cells-at
+offset_bounds-cells-at c = let o = opened c.requires.0 c.requires.1 (λ e. omega arith) in omega (arith, o.within, o.sized)
 
 pub bounds-cells-at : goal.bounds-cells-at
 bounds-cells-at c = let o = opened c.requires.0 c.requires.1 (λ e. omega arith) in omega (arith, o.within, o.sized)

@@ -14,5 +14,5 @@ decreases-expression l = 3 * (length l.cells.now - l.at) + 1
 abbrev pub decreases-expressions : goal.decreases-expressions
 decreases-expressions l = 3 * (length l.cells.now - l.at) + 2
 
-abbrev pub decreases-first-part : goal.decreases-first-part
-decreases-first-part l = 3 * (length l.cells.now - l.at) + 2
+abbrev pub decreases-first_part : goal.decreases-first_part
+decreases-first_part l = 3 * (length l.cells.now - l.at) + 2

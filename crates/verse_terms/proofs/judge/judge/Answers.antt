@@ -3,11 +3,11 @@ use Rattle.terms.proofs.Judgings.{exit_whole, refused_rest, fills}
 use Rattle.verse.specs.Syntax.{admits, kids}
 use Rattle.verse_terms.proofs.judge.judge.Goals as goal
 
-pub returns-in-err-end : goal.returns-in-err-end
-returns-in-err-end c = exit_whole admits kids _ _ _ _ c.from-residual.ensures.1 c.in-err-end.ensures
+pub returns-in_err-end : goal.returns-in_err-end
+returns-in_err-end c = exit_whole admits kids _ _ _ _ c.from_residual.ensures.1 c.in_err-end.ensures
 
 pub returns-then-end-cells : goal.returns-then-end-cells
-returns-then-end-cells c = refused_rest admits kids _ _ _ _ c.in-ok-end.ensures (omega arith)
+returns-then-end-cells c = refused_rest admits kids _ _ _ _ c.in_ok-end.ensures (omega arith)
 
 pub returns : goal.returns
-returns c = fills admits kids _ _ _ _ c.in-ok-end.ensures (omega arith)
+returns c = fills admits kids _ _ _ _ c.in_ok-end.ensures (omega arith)

@@ -7,11 +7,11 @@ use Rattle.verse_terms.proofs.site.is_site.Goals as goal
 pub loop-entry-init : goal.loop-entry-init
 loop-entry-init c = λ t h e. gone_none _ _ t h e
 
-pub returns-in-default : goal.returns-in-default
-returns-in-default c = λ t h e. fails (gone_astray _ _ t _ _ _ (c.loop-entry.invariant t h e) (omega arith) c.in-default.ensures)
+pub returns-in_default : goal.returns-in_default
+returns-in_default c = λ t h e. fails (gone_astray _ _ t _ _ _ (c.loop-entry.invariant t h e) (omega arith) c.in_default.ensures)
 
 pub loop-entry-preserved : goal.loop-entry-preserved
-loop-entry-preserved c = λ t h e. gone_more _ _ t _ _ _ (c.loop-entry.invariant t h e) (omega arith) _ _ c.in-Some.ensures (c.child-sort-sort.ensures ∙ ap (λ k. child_sort k (get_or c.args.place.now c.loop-entry.entry-index 0)) c.kind.ensures)
+loop-entry-preserved c = λ t h e. gone_more _ _ t _ _ _ (c.loop-entry.invariant t h e) (omega arith) _ _ c.in-Some.ensures (c.child_sort-sort.ensures ∙ ap (λ k. child_sort k (get_or c.args.place.now c.loop-entry.entry-index 0)) c.kind.ensures)
 
 pub returns : goal.returns
-returns c = λ t h e. gone_all _ _ t _ _ _ _ (c.loop-entry.invariant t h e) (omega arith) c.is-called.ensures
+returns c = λ t h e. gone_all _ _ t _ _ _ _ (c.loop-entry.invariant t h e) (omega arith) c.is_called.ensures
