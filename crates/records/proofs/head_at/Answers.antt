@@ -14,5 +14,5 @@ returns c =
     let l = c.args.bytes.now in
     let at = c.args.at in
     let e₀ : get_or (drop at l) 0 0 ≡ get_or l at 0 = get_or-drop at l 0 0 ∙ ap (λ k. get_or l k 0) (omega arith) in
-    let e : c.from-be-bytes.result ≡ leading (drop at l) = omega (arith, c.from-be-bytes.ensures, get_or-drop at l 1 0, get_or-drop at l 2 0, get_or-drop at l 3 0) in
+    let e : c.from_be_bytes.result ≡ leading (drop at l) = omega (arith, c.from_be_bytes.ensures, get_or-drop at l 1 0, get_or-drop at l 2 0, get_or-drop at l 3 0) in
     (omega arith, e)
