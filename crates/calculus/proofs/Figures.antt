@@ -1,17 +1,17 @@
 -- The laws of the meaning of a figure, from what the figure owes. Assumes nothing.
-use Rattle.std.proofs.Common.{◌≡◌, ℕ, zero, suc, ◌≤◌, ◌⊎◌, List, [], ◌∷◌, length, Ok, Err, Result, sym, refl, ap, ◌∙◌, subst, inl, inr, arith}
-use Rattle.terms.specs.Rows.{Row, flat, size, put, Free, Below}
-use Rattle.terms.specs.Rows.Row.{none, node}
+use Rattle.std.proofs.Common.{◌≡◌, ℕ, ◌≤◌, List, length, Ok, Err, Result, sym, ap, ◌∙◌, subst, inl, inr, arith}
+use Rattle.terms.specs.Rows.{Row, flat, size, put}
+use Rattle.terms.specs.Rows.Row.{none}
 use Rattle.calculus.specs.Line as Line
 use Rattle.terms.specs.Terms.{TreeOf, WellFormed, FreeIn, Small}
-use Rattle.terms.specs.Places.{Names, At, whole}
+use Rattle.terms.specs.Places.{At, whole}
 use Rattle.terms.proofs.Trees.{flat_size}
 use Rattle.terms.proofs.Unique.{one_tree}
 use Rattle.terms.proofs.Wholes.{whole_tree}
 use Rattle.terms.proofs.Bridge.{formed_counted, formed_fielded, free_cells, free_row, small_below}
-use Rattle.calculus.specs.Meaning.{Meaning, Taken, Tried, Gives, Refuses, most}
+use Rattle.calculus.specs.Meaning.{Gives, Refuses, most}
 use Rattle.calculus.specs.Laws.{Laws}
-use Rattle.calculus.specs.Figures.{Figure, Spells, SiteOf, Given, Asked, Owes, meaning_of}
+use Rattle.calculus.specs.Figures.{Figure, Spells, SiteOf, Asked, Owes, meaning_of}
 
 -- the parts of an answer
 abbrev row_of : Result Row ℕ → Row

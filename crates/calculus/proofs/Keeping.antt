@@ -1,5 +1,5 @@
 -- A step at a site keeps the whole, from the laws alone. Assumes nothing.
-use Rattle.std.proofs.Common.{◌≡◌, ℕ, ◌<◌, ◌≤◌, List, length, sym, refl, subst}
+use Rattle.std.proofs.Common.{ℕ, ◌<◌, ◌≤◌, List, length, sym, refl, subst}
 use Rattle.terms.specs.Rows.{frees, depth}
 use Rattle.terms.specs.Terms.{FreeIn, Deep, Laid}
 use Rattle.terms.proofs.Wholes.{whole_free, free_in, all_in, in_all}

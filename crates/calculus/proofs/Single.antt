@@ -1,5 +1,5 @@
 -- A line whose right side is one has one answer.
-use Rattle.std.proofs.Common.{◌≡◌, ℕ, ◌⊎◌, Ok, Err, Result, sym, refl, ap, ◌∙◌, inl, inr}
+use Rattle.std.proofs.Common.{◌≡◌, ℕ, Ok, Err, Result, sym, ap, ◌∙◌, inl, inr}
 use Rattle.calculus.specs.Line as Line
 use Rattle.terms.specs.Rows.{Row}
 

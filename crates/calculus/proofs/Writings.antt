@@ -1,6 +1,6 @@
 -- What a line's step answers and writes is what the meaning of the figure asks. Assumes nothing.
-use Rattle.std.proofs.Common.{◌≡◌, ℕ, ◌<◌, ◌≤◌, ◌⊎◌, List, ◌++◌, length, drop, Ok, Err, Result, sym, refl, ap, ◌∙◌, subst, inl, inr}
-use Rattle.terms.specs.Rows.{Row, flat, size, Below}
+use Rattle.std.proofs.Common.{◌≡◌, ℕ, ◌<◌, ◌≤◌, List, ◌++◌, length, drop, Ok, Err, Result, sym, refl, ap, ◌∙◌, subst, inl, inr}
+use Rattle.terms.specs.Rows.{Row, flat}
 use Rattle.terms.specs.Terms.{Small}
 use Rattle.terms.proofs.Trees.{flat_size}
 use Rattle.terms.proofs.Bridge.{below_small, small_below}

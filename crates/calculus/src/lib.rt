@@ -1,4 +1,6 @@
 // A calculus: what it means, what it owes, and what it answers.
+#![tactic(auto)]
+
 ghost use Rattle.std.specs.Prelude.{◌≡◌};
 ghost use Rattle.calculus.specs.Meaning.{Meaning};
 ghost use Rattle.calculus.specs.Laws.{Laws};

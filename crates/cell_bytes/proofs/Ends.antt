@@ -1,5 +1,5 @@
 -- Bytes are read in one way, and one byte is told. Assumes nothing.
-use Rattle.std.proofs.Common.{◌≡◌, ℕ, zero, suc, ◌+◌, ◌*◌, ◌/◌, ◌%◌, ◌^◌, ◌<◌, ◌≤◌, ◌⊎◌, List, [], ◌∷◌, ◌++◌, length, sym, refl, ap, ◌∙◌, subst, inl, inr, append_assoc, append-nil, arith}
+use Rattle.std.proofs.Common.{◌≡◌, ℕ, zero, suc, ◌/◌, ◌%◌, ◌^◌, List, [], ◌∷◌, ◌++◌, length, sym, refl, ap, ◌∙◌, subst, inl, inr, append_assoc, append-nil, arith}
 use Rattle.terms.specs.Lists.{All}
 use Rattle.cell_bytes.specs.Spelling.{spell_cell, spell}
 use Rattle.cell_bytes.specs.Holding.{Holds, Lacking, LeftOver, Amiss, Cell, Cells}

@@ -1,5 +1,5 @@
 -- What bytes hold exactly, and the first byte that is lacking or left over where they do not.
-use Rattle.std.specs.Prelude.{◌≡◌, ℕ, ◌^◌, ◌<◌, ◌⊎◌, List, [], ◌∷◌, ◌++◌, length, Some, None, Option}
+use Rattle.std.specs.Prelude.{◌≡◌, ℕ, ◌^◌, ◌<◌, ◌⊎◌, List, ◌∷◌, ◌++◌, length, Some, None, Option}
 use Rattle.terms.specs.Lists.{All}
 use Rattle.cell_bytes.specs.Spelling.{spell_cell, spell}
 

@@ -1,4 +1,6 @@
 // Cells in bytes: eight bytes a cell, most significant first.
+#![tactic(auto)]
+
 ghost use Rattle.std.specs.Prelude.{◌≡◌, ◌+◌, ◌/◌, ◌≤◌, length, take, drop};
 ghost use Rattle.cell_bytes.specs.Holding.{CellsMeasured};
 ghost use Rattle.cell_bytes.specs.Spelling.{spell_cell, CellsRead};

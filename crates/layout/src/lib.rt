@@ -1,4 +1,6 @@
 // Does a term keep the layout and fill its cells? One pass over the cells, with a list of those still open.
+#![tactic(auto)]
+
 ghost use Rattle.std.specs.Prelude.{◌≡◌, ◌+◌, ◌<◌, ◌≤◌, max, List, length, drop, Decides};
 ghost use Rattle.layout.specs.Answers.{Answered};
 ghost use Rattle.layout.specs.Open.{first, Stands, Holds, Held, Follows, Good};

@@ -1,7 +1,7 @@
 -- The free numbers of a row below a bound, tree by tree. Assumes nothing.
 use Rattle.std.proofs.Common.{◌≡◌, ℕ, ◌+◌, ◌-◌, ◌<◌, ◌≤◌, ◌⊎◌, List, length, get_or, Some, None, sym, refl, ap, ◌∙◌, subst, ⊎_elim, arith}
 use Rattle.terms.specs.Cells.{kind, binder, children, payload}
-use Rattle.terms.specs.Rows.{Row, size, above, own}
+use Rattle.terms.specs.Rows.{Row, size, above}
 use Rattle.terms.specs.Rows.Row.{none, node}
 use Rattle.terms.specs.Standing.{Stands}
 use Rattle.terms.proofs.Inject.{empty}

@@ -1,15 +1,15 @@
-use Rattle.std.proofs.Common.{◌≡◌, ℕ, zero, suc, ◌+◌, ◌^◌, ◌<◌, ◌≤◌, Bool, true, false, cond, eqb, ltb, ◌⊎◌, List, [], ◌∷◌, ◌++◌, length, Ok, Err, sym, refl, ap, ◌∙◌, subst₂, inl, inr, ⊎_elim, true≢false, arith}
+use Rattle.std.proofs.Common.{◌≡◌, ℕ, ◌<◌, ◌≤◌, [], ◌∷◌, length, Ok, Err, sym, refl, ap, ◌∙◌, subst₂, inl, inr, ⊎_elim, arith}
 use mathlib.Core.Bool.{false≢true}
 use Rattle.std.proofs.lemmas.Bool.Decides.{nat_tests}
 use Rattle.calculus.specs.Line as Line
-use Rattle.terms.specs.Lists.{In, count}
-use Rattle.terms.specs.Cells.{kind, cell, children}
-use Rattle.terms.specs.Rows.{Row, width, kind_of, ◌&◌, var, pick, flat, Free, fvs, Layout}
-use Rattle.terms.specs.Rows.Row.{none, node}
-use Rattle.terms.proofs.Inject.{top, under, next, inj-&, lawful_width, width-&, single, empty}
-use Rattle.lets.specs.Syntax.{con, fun, marked, let_in, arrow, admits, kids, Term, Terms, light, Program, ProgramRule}
+use Rattle.terms.specs.Lists.{In}
+use Rattle.terms.specs.Cells.{cell}
+use Rattle.terms.specs.Rows.{Row, width, kind_of, ◌&◌, var, flat, fvs}
+use Rattle.terms.specs.Rows.Row.{none}
+use Rattle.terms.proofs.Inject.{under, inj-&, lawful_width, width-&, single, empty}
+use Rattle.lets.specs.Syntax.{con, fun, marked, let_in, admits, kids, light, Program}
 use Rattle.lets.specs.Syntax.Sort.{term}
-use Rattle.lets.specs.Figure.{Says, HasRule, Apt, line, Let, Carries, Called, Match}
+use Rattle.lets.specs.Figure.{Says, HasRule, Apt, line, Let, Called, Match}
 use Rattle.lets.specs.Examples.{sharing, Examples}
 
 -- the answers

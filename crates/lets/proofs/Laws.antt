@@ -1,13 +1,13 @@
 -- Both laws for Bind and Flat.
-use Rattle.std.proofs.Common.{◌≡◌, ℕ, zero, suc, ◌+◌, ◌-◌, ◌^◌, ◌<◌, ◌≤◌, Bool, true, false, ◌⊎◌, List, [], ◌∷◌, replicate, sym, refl, ap, ◌∙◌, subst, inl, inr, ⊎_elim, arith}
+use Rattle.std.proofs.Common.{◌≡◌, ℕ, zero, suc, ◌+◌, ◌^◌, ◌<◌, ◌≤◌, true, ◌⊎◌, List, [], ◌∷◌, replicate, sym, refl, ap, subst, inl, inr, ⊎_elim, arith}
 use Rattle.std.proofs.lemmas.Bool.Decides.{nat_tests}
 use Rattle.terms.specs.Lists.{In}
-use Rattle.terms.specs.Cells.{kind, binder, children, payload, cell}
-use Rattle.terms.specs.Rows.{Row, size, width, ◌&◌, var, frees, fvs, above, own, Free, Below, raise, instead, beyond}
+use Rattle.terms.specs.Cells.{kind, children, payload, cell}
+use Rattle.terms.specs.Rows.{Row, size, width, ◌&◌, var, above, Free, Below, raise, instead, beyond}
 use Rattle.terms.specs.Rows.Row.{none, node}
 use Rattle.calculus.specs.Line.{Gives}
 use Rattle.terms.proofs.Inject.{lawful_width}
-use Rattle.terms.proofs.Moves.{Low, rename_frees, rename_lawful, substitute_frees, substitute_lawful, free_word, free_var, in_row, in_kids, in_own, in_next, own_is, is_own, under_more, under_less, frees_first, last, Every}
+use Rattle.terms.proofs.Moves.{Low, rename_frees, rename_lawful, substitute_frees, substitute_lawful, free_word, free_var, in_row, in_kids, in_own, in_next, under_more, under_less, frees_first, last, Every}
 use Rattle.lets.specs.Syntax.{Sort, let_in, admits, kids, Lawful, Term}
 use Rattle.lets.specs.Syntax.Sort.{term, rule, left, pattern}
 use Rattle.lets.specs.Figure.{line}

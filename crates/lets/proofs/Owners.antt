@@ -1,5 +1,5 @@
 -- The program that a calculus owns: cells that are not known to be no program are one, and read as its rules. Assumes nothing.
-use Rattle.std.proofs.Common.{◌≡◌, ℕ, zero, suc, ◌+◌, ◌-◌, ◌<◌, ◌≤◌, true, false, cond, ltb, ◌⊎◌, List, [], ◌∷◌, length, is_some, Some, None, Option, sym, refl, ap, ◌∙◌, subst, inl, inr, arith}
+use Rattle.std.proofs.Common.{◌≡◌, ℕ, zero, suc, ◌+◌, ◌<◌, ◌≤◌, true, false, cond, ltb, ◌⊎◌, List, [], ◌∷◌, length, is_some, Some, None, Option, sym, refl, ap, ◌∙◌, subst, inl, inr, arith}
 use Rattle.terms.specs.Cells.{cell}
 use Rattle.terms.specs.Lists.{count}
 use Rattle.terms.specs.Rows.{Row, size, width, ◌&◌, fvs, Free, Counted, Layout, pick}

@@ -1,15 +1,15 @@
 -- Results are unique: a redex has the left side of a line in one way only.
-use Rattle.std.proofs.Common.{◌≡◌, ℕ, zero, suc, ◌+◌, ◌-◌, ◌^◌, ◌<◌, ◌≤◌, Bool, true, false, cond, eqb, ltb, ◌⊎◌, List, [], ◌∷◌, ◌++◌, length, get_or, replicate, Result, sym, refl, ap, ◌∙◌, subst, ap₂, inl, inr, ⊎_elim, arith}
+use Rattle.std.proofs.Common.{◌≡◌, ℕ, zero, suc, ◌+◌, ◌-◌, ◌<◌, ◌≤◌, Bool, true, false, cond, eqb, ltb, List, [], ◌∷◌, length, get_or, replicate, sym, refl, ap, ◌∙◌, subst, ap₂, inl, inr, ⊎_elim, arith}
 use Rattle.std.proofs.lemmas.Bool.Decides.{nat_tests}
 use Rattle.calculus.specs.Line as Line
 use Rattle.terms.specs.Lists.{In, count}
 use Rattle.terms.specs.Cells.{kind, binder, children, payload, cell}
 use Rattle.terms.specs.Rows.{Row, width, ◌&◌, var, pick, up, down, up_beyond, substitute, instantiate, frees, fvs, above}
 use Rattle.terms.specs.Rows.Row.{none, node}
-use Rattle.terms.proofs.Inject.{top, under, next, inj-&, lawful_width}
+use Rattle.terms.proofs.Inject.{top, under, inj-&, lawful_width}
 use Rattle.terms.proofs.Moves.{in_row, own_is, ground}
 use Rattle.calculus.proofs.Single.{answer}
-use Rattle.lets.specs.Syntax.{Sort, fun, marked, let_in, arrow, admits, kids, Lawful, Term, Terms, ProgramRule, ProgramRules}
+use Rattle.lets.specs.Syntax.{fun, let_in, arrow, admits, kids, Lawful, Term, ProgramRule, ProgramRules}
 use Rattle.lets.specs.Syntax.Sort.{term, left, pattern}
 use Rattle.lets.specs.Figure.{Rule, Match, binding, Called, Let, Lets, Carries, figure, line, Says, HasRule, Apt}
 use Rattle.lets.specs.Figure as Figure

@@ -5,7 +5,7 @@ use Rattle.terms.specs.Rows.{Row, size, Free, Below}
 use Rattle.calculus.specs.Meaning.{most}
 use Rattle.lets.specs.Syntax.{Term, ProgramRules}
 use Rattle.lets.specs.Figure.{line}
-use Rattle.lets.specs.Laws.{Held, FirstOf, SecondOf}
+use Rattle.lets.specs.Laws.{FirstOf, SecondOf}
 use Rattle.lets.specs.Meaning.{FirstShort, SecondShort}
 
 pub record Within (t u : Row) : Type 0 where

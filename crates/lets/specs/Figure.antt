@@ -1,12 +1,12 @@
 -- The rules of let-rewriting over a program, a definition for each; what a rule gives and when it refuses.
 -- The nearest binder is 0.
-use Rattle.std.specs.Prelude.{◌≡◌, ℕ, zero, suc, ◌-◌, ◌<◌, ◌≤◌, true, cond, ◌⊎◌, List, [], ◌∷◌, length, Result, ◌==◌, slice_index_or}
+use Rattle.std.specs.Prelude.{◌≡◌, ℕ, ◌-◌, ◌<◌, ◌≤◌, true, cond, ◌⊎◌, List, [], ◌∷◌, length, Result, ◌==◌, slice_index_or}
 use Rattle.terms.specs.Cells.{kind, payload}
 use Rattle.terms.specs.Rows.{Row, width, kind_of, ◌&◌, var, fvs, Free, up, down, up_beyond, substitute, instantiate, pick}
 use Rattle.terms.specs.Rows.Row.{none, node}
 use Rattle.calculus.specs.Line as Line
 use Rattle.calculus.specs.Line.{always, only_if}
-use Rattle.lets.specs.Syntax.{con, fun, marked, let_in, arrow, Term, Terms, light}
+use Rattle.lets.specs.Syntax.{fun, marked, let_in, arrow, Term, Terms, light}
 
 -- of a program (its rules side by side), an argument and a redex
 abbrev pub Rule : Type 1

@@ -1,5 +1,5 @@
 -- What let-rewriting over a program means, over cells.
-use Rattle.std.specs.Prelude.{ℕ, ◌≤◌, List}
+use Rattle.std.specs.Prelude.{ℕ, ◌≤◌}
 use Rattle.terms.specs.Rows.{Row, size, Free, Below}
 use Rattle.calculus.specs.Line.{Gives}
 use Rattle.calculus.specs.Meaning.{Meaning, most}

@@ -1,4 +1,6 @@
 // Let-rewriting: which cells are a term, which terms are light, which cells are a program; the rules are in specs/.
+#![tactic(auto)]
+
 ghost use Rattle.lets.specs.Examples.{Examples};
 ghost use Rattle.lets.specs.Laws.{FirstLaw, SecondLaw, Matching, OneAnswer, SomeLaws};
 ghost use Rattle.lets.specs.Meaning.{KeepsLaws};

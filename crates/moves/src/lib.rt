@@ -1,4 +1,6 @@
 // Terms moved into lent space: their variables renamed, and terms put for them.
+#![tactic(auto)]
+
 ghost use Rattle.std.specs.Prelude.{◌≡◌, ◌^◌, ◌<◌, length, nat_le};
 ghost use Rattle.terms.specs.Rows.{rename, raise, down, replace, instantiate};
 ghost use Rattle.moves.specs.Images.{Spans};

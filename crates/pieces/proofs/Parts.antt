@@ -1,12 +1,12 @@
 -- A tree that lies among cells, and its children. Assumes nothing.
-use Rattle.std.proofs.Common.{◌≡◌, ℕ, suc, ◌+◌, ◌-◌, ◌<◌, ◌≤◌, Bool, true, false, eqb, List, [], ◌∷◌, ◌++◌, length, get_or, Some, None, Decides, Option, sym, refl, ap, ◌∙◌, subst, arith}
+use Rattle.std.proofs.Common.{◌≡◌, ℕ, suc, ◌+◌, ◌<◌, Bool, eqb, List, length, get_or, Some, None, Decides, sym, refl, ap, ◌∙◌, arith}
 use Rattle.std.proofs.lemmas.Bool.Decides.{nat_tests}
 use Rattle.terms.specs.Cells.{children}
-use Rattle.terms.specs.Rows.{Row, flat, size, width, ◌&◌, Counted}
+use Rattle.terms.specs.Rows.{Row, size}
 use Rattle.terms.specs.Rows.Row.{none, node}
 use Rattle.terms.specs.Standing.{Stands, Ends}
 use Rattle.terms.proofs.Trees.{same}
-use Rattle.terms.proofs.Inject.{top, under, empty}
+use Rattle.terms.proofs.Inject.{top, empty}
 use Rattle.terms.proofs.Steps.{Opened, opened, moved, first_tree, stands_first}
 use Rattle.pieces.specs.declared.span.Span.{Span}
 use Rattle.pieces.specs.Parts.{Lies, Single, Paired}

@@ -1,5 +1,5 @@
 -- The cells that pieces show, and their number. Assumes nothing.
-use Rattle.std.proofs.Common.{◌≡◌, ℕ, ◌+◌, ◌-◌, ◌<◌, ◌≤◌, List, [], ◌∷◌, ◌++◌, length, get_or, take, drop, sym, refl, ap, ◌∙◌, subst, arith, length-append, length-drop}
+use Rattle.std.proofs.Common.{◌≡◌, ℕ, ◌+◌, ◌-◌, ◌<◌, ◌≤◌, List, [], ◌∷◌, length, get_or, take, drop, sym, refl, ap, ◌∙◌, subst, arith, length-append, length-drop}
 use Rattle.std.proofs.lemmas.List.{take_at, drop_more, drop_all, length-take-le}
 use Rattle.moves.specs.declared.renaming.Renaming.{Renaming}
 use Rattle.moves.specs.Renamings.{renamed}
@@ -10,7 +10,7 @@ use Rattle.terms.specs.Reading.{trees}
 use Rattle.terms.proofs.Trees.{flat_size}
 use Rattle.terms.proofs.Bridge.{rename_size}
 use Rattle.terms.proofs.Readings.{reads_flat}
-use Rattle.terms.proofs.Steps.{size_within, over-++}
+use Rattle.terms.proofs.Steps.{over-++}
 use Rattle.pieces.specs.declared.piece.Piece.{Piece}
 use Rattle.pieces.specs.declared.piece.Piece.TheVariants.{Cell, Copy, Moved}
 use Rattle.pieces.specs.Shown.{between, shown, shown_all, Sound, Sound_all, extent, extent_all}

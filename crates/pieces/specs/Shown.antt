@@ -1,6 +1,5 @@
 -- The cells that pieces of a list of cells show, one piece after the other.
 use Rattle.std.specs.Prelude.{◌≡◌, ℕ, ◌+◌, ◌-◌, ◌^◌, ◌<◌, ◌≤◌, List, [], ◌∷◌, ◌++◌, length, take, drop, Some, None, Option}
-use Rattle.moves.specs.declared.renaming.Renaming.{Renaming}
 use Rattle.moves.specs.Renamings.{renamed, most}
 use Rattle.pieces.specs.declared.piece.Piece.{Piece}
 use Rattle.pieces.specs.declared.piece.Piece.TheVariants.{Cell, Copy, Moved}

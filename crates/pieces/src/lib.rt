@@ -1,4 +1,6 @@
 // What a rule writes, said as pieces of its redex.
+#![tactic(auto)]
+
 ghost use Rattle.std.specs.Prelude.{◌≡◌, ◌+◌, ◌≤◌, length};
 ghost use Rattle.terms.specs.Lists.{over};
 ghost use Rattle.pieces.specs.Shown.{shown, shown_all, Sound, Sound_all, extent, extent_all, Counted, Put};

@@ -1,13 +1,13 @@
 -- From what a run does in its turn to what its calls answer and leave. Assumes nothing.
-use Rattle.std.proofs.Common.{◌≡◌, ℕ, ◌+◌, ◌≤◌, min, List, [], ◌∷◌, ◌++◌, length, take, replicate, Ok, Err, sym, refl, ap, ◌∙◌, subst, inl, lit≤}
+use Rattle.std.proofs.Common.{◌≡◌, ℕ, ◌+◌, min, List, [], ◌∷◌, length, take, replicate, Ok, Err, sym, refl, ap, ◌∙◌, subst, inl, lit≤}
 use Rattle.calculus.specs.declared.Calculus.{Ghosts}
 use Rattle.layout.specs.declared.Walk.{Walk}
 use Rattle.calculus.specs.Meaning.{Meaning}
 use Rattle.runs.specs.Questions.{AllYes, FirstNo}
 use Rattle.runs.specs.Steps.{Step, Leads}
-use Rattle.runs.specs.Chain.{Chain, Event, opening, stepping, settling, withdrawing, questions, held, Enough, Compared, TurnBy, accepted, refused, opened, moved, rested}
+use Rattle.runs.specs.Chain.{Event, opening, stepping, settling, withdrawing, questions, held, Enough, Compared, accepted, refused}
 use Rattle.runs.specs.Theorem.{laid}
-use Rattle.runs.specs.Calls.{chain_of, Called, Cleared, lent_of, table_after, OpenAsked, StepAsked, SettleAsked, WithdrawAsked}
+use Rattle.runs.specs.Calls.{chain_of, Called, Cleared, lent_of, OpenAsked, StepAsked, SettleAsked, WithdrawAsked}
 use Rattle.runs.specs.Turning.{Moves, chain_at}
 use Rattle.runs.specs.declared.run.Run.{Run}
 use Rattle.runs.specs.declared.ticket.Ticket.{Ticket}

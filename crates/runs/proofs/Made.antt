@@ -1,17 +1,16 @@
 -- Calls that each keep their contract, made one after the other on a fresh run, keep the theorem. Assumes nothing.
-use Rattle.std.proofs.Common.{◌≡◌, ℕ, zero, suc, ◌+◌, ◌-◌, ◌<◌, ◌≤◌, ◌⊎◌, List, [], ◌∷◌, ◌++◌, length, take, drop, replicate, sym, refl, ap, ◌∙◌, subst, inl, inr, append_assoc, arith, length-append}
+use Rattle.std.proofs.Common.{◌≡◌, ℕ, ◌-◌, ◌≤◌, ◌⊎◌, List, [], ◌∷◌, ◌++◌, length, drop, replicate, sym, refl, ap, ◌∙◌, subst, inl, inr, append_assoc, arith, length-append}
 use Rattle.calculus.specs.declared.Calculus.{Ghosts}
 use lib.ListN.{length-replicate}
 use lib.Seq.{drop-append_seam}
-use Rattle.terms.specs.Terms.{Laid}
 use Rattle.calculus.specs.Meaning.{Meaning}
 use Rattle.calculus.specs.Laws.{Laws}
-use Rattle.runs.specs.Chain.{Chain, fresh, told, Event, opening, stepping, settling, withdrawing, TurnBy, accepted, refused, Turn}
+use Rattle.runs.specs.Chain.{Chain, fresh, told, Event, opening, stepping, settling, withdrawing, accepted, refused, Turn}
 use Rattle.runs.specs.Follows.{Follows, Opening, Opens}
 use Rattle.runs.specs.Theorem.{laid, Replayed}
 use Rattle.runs.specs.Calls.{chain_of, table_after, Called}
 use Rattle.runs.specs.declared.run.Run.{Run}
-use Rattle.runs.specs.declared.call.State.TheVariants.{Idle, Open}
+use Rattle.runs.specs.declared.call.State.TheVariants.{Open}
 use Rattle.runs.specs.declared.call.Said.{Said}
 use Rattle.runs.specs.declared.call.Answer.{Answer}
 use Rattle.runs.proofs.Turns.{as_chain}

@@ -1,5 +1,5 @@
 -- Only question 1 tells 1. Assumes nothing.
-use Rattle.std.proofs.Common.{◌≡◌, ℕ, ◌⊎◌, List, [], ◌∷◌, sym, subst, inl, inr}
+use Rattle.std.proofs.Common.{◌≡◌, ℕ, List, [], ◌∷◌, sym, subst, inl, inr}
 use Rattle.calculus.specs.Meaning.{Meaning}
 use Rattle.runs.specs.Questions.{Question, FirstNo}
 use Rattle.runs.specs.Steps.{Step, layout, lawful, step_questions}

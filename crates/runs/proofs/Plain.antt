@@ -1,13 +1,13 @@
 -- From what a calculus answers to what a step is answered. Assumes nothing.
-use Rattle.std.proofs.Common.{◌≡◌, ℕ, ◌+◌, ◌<◌, ◌≤◌, min, ◌⊎◌, List, [], ◌∷◌, ◌++◌, length, sym, refl, ap, ◌∙◌, subst, inl, inr, arith, length-append}
+use Rattle.std.proofs.Common.{◌≡◌, ℕ, ◌<◌, ◌≤◌, List, ◌++◌, length, refl, inl, inr, arith, length-append}
 use Rattle.terms.specs.Terms.{Deep}
 use Rattle.terms.specs.Places.{Names, At, Strays, whole}
-use Rattle.calculus.specs.Meaning.{Meaning, Taken, Gives, Refuses, most}
+use Rattle.calculus.specs.Meaning.{Meaning, Gives, Refuses}
 use Rattle.calculus.specs.Laws.{Laws}
 use Rattle.calculus.specs.Answers.{Refused}
 use Rattle.calculus.specs.declared.no.No.{No}
 use Rattle.calculus.specs.declared.no.No.TheVariants as say
-use Rattle.runs.specs.Questions.{Question, AllYes, FirstNo}
+use Rattle.runs.specs.Questions.{FirstNo}
 use Rattle.runs.specs.Steps.{Step, Redex, step_questions, Rewrites, Leads}
 use Rattle.runs.specs.Rewriting.{refusal_of}
 use Rattle.runs.specs.declared.refusal.Refusal.{Refusal}

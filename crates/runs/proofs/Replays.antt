@@ -6,7 +6,7 @@ use Rattle.std.proofs.lemmas.List.{length-take-le, map_more, map-append, take-ap
 use Rattle.layout.specs.declared.Walk.{Walk}
 use Rattle.calculus.specs.Meaning.{Meaning}
 use Rattle.calculus.specs.Laws.{Laws}
-use Rattle.runs.specs.Chain.{Chain, fresh, told, Event}
+use Rattle.runs.specs.Chain.{Chain, fresh, told}
 use Rattle.runs.specs.Theorem.{Replayed, Part}
 use Rattle.runs.specs.Calls.{chain_of, Called, event_of, events_of, lent_of}
 use Rattle.runs.specs.Performed.{Performed}

@@ -1,5 +1,5 @@
 -- Where the redex of a step and what is given for it stand. Assumes nothing.
-use Rattle.std.proofs.Common.{◌≡◌, ℕ, ◌+◌, ◌-◌, ◌<◌, ◌≤◌, List, [], ◌∷◌, ◌++◌, length, take, drop, Some, None, sym, refl, ap, ◌∙◌, subst, inl, inr, append_assoc, arith, length-append}
+use Rattle.std.proofs.Common.{◌≡◌, ℕ, ◌+◌, ◌-◌, ◌<◌, ◌≤◌, List, ◌++◌, length, take, drop, Some, None, sym, refl, ap, ◌∙◌, subst, inl, inr, append_assoc, arith, length-append}
 use borrow.Rule.Slice.PartMut.{put_mid}
 use lib.Seq.{paste}
 use Rattle.std.proofs.lemmas.List.{take_at, drop_at, take_rest, length-take-le, length-drop}
@@ -8,12 +8,12 @@ use Rattle.std.proofs.lemmas.Bool.{cases_lt}
 use Rattle.terms.specs.Rows.{size, depth, pick}
 use Rattle.terms.specs.Terms.{Deep, Laid}
 use Rattle.terms.specs.Standing.{Stands, Ends}
-use Rattle.terms.specs.Places.{At, CellAt, whole}
+use Rattle.terms.specs.Places.{CellAt, whole}
 use Rattle.terms.proofs.Trees.{flat_size}
 use Rattle.terms.proofs.Ways.{part_stands}
 use Rattle.terms.proofs.Unique.{parts_join, one_depth}
 use Rattle.moves.proofs.Substitutes.{stands_same}
-use Rattle.calculus.specs.Meaning.{Meaning, Gives, most}
+use Rattle.calculus.specs.Meaning.{Meaning, Gives}
 use Rattle.calculus.specs.Laws.{Laws}
 use Rattle.calculus.specs.Answers.{Stepped, Refused}
 use Rattle.calculus.specs.Rewriting.{Rewritten}

@@ -1,5 +1,5 @@
 -- Where a call is refused behind what the run's state decides. Assumes nothing.
-use Rattle.std.proofs.Common.{◌≡◌, ℕ, List, ◌∷◌, Ok, Err, Result, sym, subst, inr, Bor}
+use Rattle.std.proofs.Common.{◌≡◌, ℕ, List, Ok, Err, Result, sym, subst, inr, Bor}
 use Rattle.calculus.specs.declared.Calculus.{Ghosts}
 use Rattle.terms.specs.Terms.{Laid}
 use Rattle.calculus.specs.Meaning.{Meaning}

@@ -1,13 +1,13 @@
 -- A chain has one turn for each call, and a run whose table is held turns as the chain does. Assumes nothing.
-use Rattle.std.proofs.Common.{◌≡◌, ℕ, zero, suc, ◌<◌, ◌≤◌, ◌⊎◌, ◌↔◌, List, [], ◌∷◌, ◌++◌, length, get_or, take, sym, refl, ap, ◌∙◌, subst, inl, inr, arith, get_or-take}
+use Rattle.std.proofs.Common.{◌≡◌, ℕ, ◌<◌, ◌↔◌, List, [], ◌∷◌, get_or, take, sym, refl, ap, ◌∙◌, subst, inl, inr, get_or-take}
 use Rattle.terms.specs.Terms.{Laid}
 use Rattle.terms.specs.Places.{whole}
 use Rattle.terms.proofs.Unique.{one_part, order}
 use Rattle.calculus.specs.Meaning.{Meaning, Gives}
 use Rattle.calculus.specs.Laws.{Laws}
-use Rattle.runs.specs.Questions.{Question, AllYes, FirstNo}
+use Rattle.runs.specs.Questions.{AllYes, FirstNo}
 use Rattle.runs.specs.Steps.{Step, Rewrites, Leads}
-use Rattle.runs.specs.Chain.{Chain, Event, opening, stepping, settling, withdrawing, questions, held, Accepted, TurnBy, accepted, refused, Turn, Compared, Differ, Enough, moved}
+use Rattle.runs.specs.Chain.{Chain, Event, opening, stepping, settling, withdrawing, questions, held, Accepted, TurnBy, accepted, refused, Turn, Compared, Enough, moved}
 use Rattle.runs.specs.declared.call.State.TheVariants.{Open}
 use Rattle.runs.specs.declared.call.Lent.{Lent}
 use Rattle.runs.specs.declared.call.Settlement.{Settlement}
@@ -15,7 +15,7 @@ use Rattle.runs.specs.declared.call.Settlement.TheVariants.{Reached, Differs}
 use Rattle.runs.specs.declared.call.Answer.{Answer}
 use Rattle.runs.specs.declared.call.Answer.TheVariants.{Opened, Stepped, Settled, Withdrawn, Refused}
 use Rattle.runs.specs.declared.refusal.Refusal.{Refusal}
-use Rattle.runs.proofs.Decided.{AllDecided, yes_no, one_no, all_decided}
+use Rattle.runs.proofs.Decided.{yes_no, one_no, all_decided}
 
 -- the term with what the calculus gives is one
 pub one_rewrite : (m : Meaning) → Laws m → (cells : List ℕ) (s : Step) (u v : List ℕ) → Rewrites m cells s u → Rewrites m cells s v → u ≡ v

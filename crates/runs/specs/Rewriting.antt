@@ -1,5 +1,5 @@
 -- What is answered on the way through a step's questions, and where the terms stand.
-use Rattle.std.specs.Prelude.{◌≡◌, ℕ, ◌-◌, ◌≤◌, List, ◌∷◌, length, take, drop, Ok, Err, Result}
+use Rattle.std.specs.Prelude.{ℕ, ◌-◌, ◌≤◌, List, ◌∷◌, length, take, drop, Ok, Err, Result}
 use Rattle.terms.specs.Terms.{Laid}
 use Rattle.terms.specs.Places.{At}
 use Rattle.calculus.specs.Meaning.{Meaning}

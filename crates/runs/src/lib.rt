@@ -1,4 +1,6 @@
 // Runs over any calculus.
+#![tactic(auto)]
+
 pub mod asking;
 pub mod call;
 pub mod calls;

@@ -1,4 +1,6 @@
 // Scripts of calls in text, a call a line; blank lines and what follows `#` pass.
+#![tactic(auto)]
+
 use std::alloc::{AllocError, AllocFailed, Global};
 
 pub mod line;

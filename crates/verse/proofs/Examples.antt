@@ -1,18 +1,18 @@
-use Rattle.std.proofs.Common.{◌≡◌, ℕ, zero, suc, ◌+◌, ◌^◌, ◌<◌, ◌≤◌, true, false, ◌⊎◌, List, [], ◌∷◌, ◌++◌, length, ℤ, ◌+ℤ◌, ◌≤ℤ◌, ◌<ℤ◌, Ok, Err, sym, refl, ap, ◌∙◌, subst, subst₂, inl, inr, ⊎_elim, true≢false, arith, w32, SFits, to_z}
+use Rattle.std.proofs.Common.{◌≡◌, ℕ, suc, List, [], ◌∷◌, ◌++◌, length, ◌<ℤ◌, Ok, Err, sym, refl, ap, ◌∙◌, subst₂, inl, inr, arith}
 use mathlib.Core.Bool.{false≢true}
 use Rattle.calculus.specs.Line as Line
 use Rattle.terms.specs.Lists.{In}
-use Rattle.terms.specs.Cells.{kind, cell, children}
-use Rattle.terms.specs.Rows.{Row, width, kind_of, ◌&◌, var, pick}
+use Rattle.terms.specs.Cells.{kind, cell}
+use Rattle.terms.specs.Rows.{Row, width, ◌&◌, var, pick}
 use Rattle.terms.specs.Rows.Row.{none, node}
-use Rattle.terms.proofs.Inject.{top, under, next, inj-&, lawful_width}
-use Rattle.verse.specs.Syntax.{int, add, gt, tuple, lambda, app, seq, eqn, exists, fail, choice, one, all, admits, kids, Val, Hnf, Exp, Equ, Vals}
+use Rattle.terms.proofs.Inject.{top, under, inj-&, lawful_width}
+use Rattle.verse.specs.Syntax.{int, add, gt, tuple, lambda, app, seq, eqn, exists, fail, choice, one, all, admits, kids}
 use Rattle.verse.specs.Syntax.Sort.{equ}
-use Rattle.verse.specs.Contexts.{Context, V, Nonempty, ◌⟨◌⟩, ◌⟦◌⟧, place, X, CX, SC, SX, Down, choice_free}
+use Rattle.verse.specs.Contexts.{Context, V, Nonempty, ◌⟨◌⟩, ◌⟦◌⟧, place, CX, SC, SX, choice_free}
 use Rattle.verse.specs.Contexts.Context.{□, in_equation, in_first, in_second, in_exists, in_left, in_right, in_one, in_all}
 use Rattle.verse.specs.Contexts.V.{▢, among}
-use Rattle.verse.specs.Lines.{Pair, sum, value, Binds, Literals, Tuples, Heads, Holds, Deep, Local, Scoped}
-use Rattle.verse.specs.Figure.{Says, HasRule, HasInner, Apt, line}
+use Rattle.verse.specs.Lines.{Pair, value, Binds, Literals, Tuples, Holds}
+use Rattle.verse.specs.Figure.{Says, HasRule, Apt, line}
 use Rattle.verse.specs.Examples.{L, Examples}
 
 -- the answers

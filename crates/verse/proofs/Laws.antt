@@ -1,18 +1,16 @@
-use Rattle.std.proofs.Common.{◌≡◌, ℕ, zero, suc, ◌+◌, ◌-◌, ◌^◌, ◌<◌, ◌≤◌, Bool, true, false, cond, eqb, ◌⊎◌, List, [], ◌∷◌, ◌++◌, sym, refl, ap, ◌∙◌, subst, inl, inr, ⊎_elim, append-nil, arith}
+use Rattle.std.proofs.Common.{◌≡◌, ℕ, zero, suc, ◌+◌, ◌-◌, ◌^◌, ◌<◌, ◌≤◌, Bool, true, false, cond, eqb, ◌⊎◌, List, [], ◌∷◌, sym, refl, ap, ◌∙◌, subst, inl, inr, ⊎_elim, arith}
 use Rattle.std.proofs.lemmas.Bool.Decides.{nat_tests}
-use Rattle.calculus.specs.Line as Line
 use Rattle.terms.specs.Lists.{In}
-use Rattle.terms.specs.Cells.{kind, binder, children, payload, cell, zeros}
-use Rattle.terms.specs.Rows.{Row, size, width, ◌&◌, var, frees, above, Free, Below, up, down, raise, replace, «for»}
+use Rattle.terms.specs.Cells.{kind, children, payload, cell}
+use Rattle.terms.specs.Rows.{Row, size, width, ◌&◌, var, Free, Below, up, raise, replace, «for»}
 use Rattle.terms.specs.Rows.Row.{none, node}
 use Rattle.terms.proofs.Inject.{lawful_width}
-use Rattle.terms.proofs.Moves.{Low, Every, in_row, in_own, in_kids, in_next, bound_in, bound_out, plain_in, plain_out, free-&, free_left, free_right, free_word, free_var, rename_frees, rename_lawful, substitute_frees, substitute_lawful}
-use Rattle.verse.specs.Syntax.{Sort, int, lambda, app, seq, eqn, exists, admits, kids, children_of, Lawful, Val, Exp}
+use Rattle.terms.proofs.Moves.{Low, Every, bound_in, bound_out, plain_in, plain_out, free-&, free_left, free_right, free_word, free_var, rename_frees, rename_lawful, substitute_frees, substitute_lawful}
+use Rattle.verse.specs.Syntax.{Sort, lambda, seq, eqn, admits, kids, children_of, Lawful, Val, Exp}
 use Rattle.verse.specs.Syntax.Sort.{val, hnf, exp, equ}
 use Rattle.verse.specs.Contexts.{Context, ◌⟦◌⟧, X, CX, each}
 use Rattle.verse.specs.Contexts.Context.{□, in_equation, in_first, in_second, in_exists, in_left, in_right, in_one, in_all}
-use Rattle.verse.specs.Figure.{line}
-use Rattle.verse.specs.Laws.{Held, FirstOf, SecondOf, SomeLaws}
+use Rattle.verse.specs.Laws.{FirstOf, SecondOf, SomeLaws}
 use Rattle.verse.proofs.Within.{FirstWithin, SecondWithin, first_held, second_held}
 
 -- a value is an expression, and an expression may stand first in a sequence

@@ -1,25 +1,23 @@
 -- What every calculus owes, of the Verse calculus, from the two laws of its rules. Assumes nothing.
-use Rattle.std.proofs.Common.{◌≡◌, ℕ, zero, suc, ◌^◌, ◌<◌, ◌≤◌, Bool, true, false, cond, ◌&&◌, ◌||◌, eqb, leb, ◌⊎◌, List, [], ◌∷◌, ◌++◌, length, replicate, Result, sym, refl, ap, ◌∙◌, subst, inl, inr, ⊎_elim, arith}
+use Rattle.std.proofs.Common.{◌≡◌, ℕ, ◌^◌, ◌<◌, ◌≤◌, Bool, true, false, cond, ◌&&◌, ◌||◌, eqb, leb, ◌⊎◌, List, [], ◌∷◌, ◌++◌, length, Result, sym, refl, ap, ◌∙◌, subst, inl, inr, ⊎_elim, arith}
 use lib.ListN.{length-replicate}
 use Rattle.std.proofs.lemmas.Bool.Decides.{nat_tests}
 use Rattle.terms.specs.Cells.{kind, binder, children, zeros, payload, form, Fields}
-use Rattle.terms.specs.Rows.{Row, size, width, var, replace, «for», Counted, Formed, Place, pick}
+use Rattle.terms.specs.Rows.{Row, size, width, var, replace, «for», Counted, Formed, Place}
 use Rattle.terms.specs.Rows.Row.{none, node}
 use Rattle.calculus.specs.Line.{Gives}
 use Rattle.terms.specs.Grammar as Grammar
 use Rattle.terms.proofs.Inject.{lawful_width}
 use Rattle.terms.proofs.Bridge.{bare_word, at_place, formed_counted, lawful_formed, place_join, size-&, substitute_size}
-use Rattle.calculus.specs.Figures.{Asked, Owes}
 use Rattle.calculus.specs.Answers.{Judged}
 use Rattle.calculus.proofs.Figures.{laws_from}
 use Rattle.calculus.proofs.Judges.{judged}
-use Rattle.verse.specs.Syntax.{Sort, plain, head_cell, value_cell, expression_cell, admits, kids, children_of, choice, seq, eqn, exists, fail, Calls, Lawful, Term, Exp}
+use Rattle.verse.specs.Syntax.{Sort, plain, head_cell, value_cell, expression_cell, admits, kids, children_of, choice, seq, eqn, fail, Calls, Lawful, Term, Exp}
 use Rattle.verse.specs.Syntax.Sort.{val, hnf, exp, equ}
-use Rattle.verse.specs.Contexts.{Context, ◌⟦◌⟧, place, X, CX, SX, Down, each}
+use Rattle.verse.specs.Contexts.{Context, ◌⟦◌⟧, place, X, Down, each}
 use Rattle.verse.specs.Contexts.Context.{□, in_equation, in_first, in_second, in_exists, in_left, in_right, in_one, in_all}
 use Rattle.verse.specs.Lines.{Binds, Exists, Local, Scoped}
-use Rattle.verse.specs.Figure.{HasRule, HasInner, line}
-use Rattle.verse.specs.Laws.{Held, FirstOf, SecondOf}
+use Rattle.verse.specs.Figure.{HasInner, line}
 use Rattle.verse.specs.Meaning.{verse, meaning, Suffices, BothForms}
 use Rattle.verse.proofs.Laws.{beside, plug_cx}
 use Rattle.verse.proofs.Places.{places, sites}

@@ -1,19 +1,19 @@
 -- Results are unique: a redex has the left side of a line in one way only.
-use Rattle.std.proofs.Common.{◌≡◌, ℕ, zero, suc, ◌+◌, ◌-◌, ◌^◌, ◌<◌, ◌≤◌, Bool, true, false, ◌⊎◌, List, [], ◌∷◌, ◌++◌, length, get_or, ℤ, ◌+ℤ◌, Ok, Err, Result, sym, refl, ap, ◌∙◌, subst, ap₂, inl, inr, ⊎_elim, arith, w32, SFits, of_z}
+use Rattle.std.proofs.Common.{◌≡◌, ℕ, zero, suc, ◌-◌, ◌≤◌, List, [], ◌∷◌, ◌++◌, length, get_or, ◌+ℤ◌, sym, refl, ap, ◌∙◌, subst, ap₂, arith, w32, SFits, of_z}
 use mathlib.Core.Bool.{false≢true}
 use Rattle.calculus.specs.Line as Line
 use Rattle.terms.specs.Cells.{cell}
 use Rattle.terms.specs.Rows.{Row, width, ◌&◌, var, pick, up, down, exchange, replace}
 use Rattle.terms.specs.Rows.Row.{none, node}
-use Rattle.terms.proofs.Inject.{top, under, next, inj-&, lawful_width}
+use Rattle.terms.proofs.Inject.{top, under, inj-&, lawful_width}
 use Rattle.calculus.proofs.Single.{answer}
-use Rattle.verse.specs.Syntax.{Sort, int, add, gt, tuple, lambda, app, seq, eqn, exists, fail, choice, one, all, admits, kids, Lawful, Val, Hnf, Exp, Equ, Vals}
+use Rattle.verse.specs.Syntax.{Sort, int, tuple, lambda, seq, eqn, exists, fail, choice, one, all, admits, kids, Lawful, Val, Exp, Equ, Vals}
 use Rattle.verse.specs.Syntax.Sort.{val, hnf, exp, equ}
 use Rattle.verse.specs.Contexts.{Context, ◌⟦◌⟧, place, X, CX, SC, SX, each, Down}
 use Rattle.verse.specs.Contexts.Context.{□, in_equation, in_first, in_second, in_exists, in_left, in_right, in_one, in_all}
 use Rattle.verse.specs.Lines.{Rule, Binds, Pair, value, choices, arms, equations}
 use Rattle.verse.specs.Lines as Lines
-use Rattle.verse.specs.Figure.{figure, line, Says, HasRule, Apt}
+use Rattle.verse.specs.Figure.{figure, line, HasRule, Apt}
 use Rattle.verse.specs.Laws.{OneAnswer}
 use Rattle.verse.proofs.Laws.{plug_exp, plug_cx, beside, variable_at, value_exp}
 

@@ -1,16 +1,15 @@
 -- The words after "if" hold of every way in which a redex has the left side, or of none.
-use Rattle.std.proofs.Common.{◌≡◌, ℕ, zero, suc, ◌-◌, ◌<◌, ◌≤◌, List, [], ◌∷◌, get_or, ◌≤ℤ◌, ◌<ℤ◌, sym, refl, ap, ◌∙◌, subst, subst₂, arith}
+use Rattle.std.proofs.Common.{ℕ, zero, suc, ◌-◌, List, [], ◌∷◌, get_or, ◌≤ℤ◌, ◌<ℤ◌, sym, refl, ap, ◌∙◌, subst, subst₂, arith}
 use Rattle.calculus.specs.Line as Line
 use Rattle.terms.specs.Cells.{cell}
 use Rattle.terms.specs.Rows.{Row, var, pick, Free}
-use Rattle.terms.specs.Rows.Row.{none, node}
 use Rattle.terms.proofs.Inject.{top, under}
-use Rattle.verse.specs.Syntax.{int, seq, eqn, Val}
+use Rattle.verse.specs.Syntax.{seq, eqn}
 use Rattle.verse.specs.Syntax.Sort.{hnf, equ}
 use Rattle.verse.specs.Contexts.{◌⟦◌⟧}
 use Rattle.verse.specs.Lines.{Rule, Binds, Word, value, NotLambda, Holds, Deep}
 use Rattle.verse.specs.Lines as Lines
-use Rattle.verse.specs.Figure.{figure, line}
+use Rattle.verse.specs.Figure.{figure}
 use Rattle.verse.specs.Laws.{OneWay}
 use Rattle.verse.proofs.Unique.{two, wide, tails, same_pair, same_binds, same_down, binds_exp, move}
 

@@ -5,7 +5,7 @@ use Rattle.terms.specs.Rows.{Row, size, Free, Below}
 use Rattle.calculus.specs.Meaning.{most}
 use Rattle.verse.specs.Syntax.{Term}
 use Rattle.verse.specs.Figure.{line}
-use Rattle.verse.specs.Laws.{Held, FirstOf, SecondOf}
+use Rattle.verse.specs.Laws.{FirstOf, SecondOf}
 use Rattle.verse.specs.Meaning.{FirstShort, SecondShort}
 
 pub record Within (t u : Row) : Type 0 where

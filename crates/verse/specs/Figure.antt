@@ -1,5 +1,5 @@
 -- The whole figure: its lines numbered from the top, what a rule gives and when it refuses.
-use Rattle.std.specs.Prelude.{◌≡◌, ℕ, zero, suc, ◌-◌, ◌≤◌, ◌⊎◌, List, [], ◌∷◌, Result, slice_index_or}
+use Rattle.std.specs.Prelude.{◌≡◌, ℕ, ◌-◌, ◌≤◌, ◌⊎◌, List, [], ◌∷◌, Result, slice_index_or}
 use Rattle.terms.specs.Rows.{Row}
 use Rattle.calculus.specs.Line as Line
 use Rattle.calculus.specs.Line.{always}

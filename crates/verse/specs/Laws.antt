@@ -5,7 +5,7 @@ use Rattle.terms.specs.Rows.{Row, size, Free, Below, Place, pick, put, var}
 use Rattle.verse.specs.Syntax.{Term, Val, Exp, Site}
 use Rattle.verse.specs.Contexts.{Context, ◌⟦◌⟧, place, X, CX, SX, lies}
 use Rattle.verse.specs.Lines.{Word, Holds, Deep}
-use Rattle.verse.specs.Figure.{HasRule, Says, line}
+use Rattle.verse.specs.Figure.{Says, line}
 
 -- a lawful term whose payloads stay within 32 bits under its own binders
 pub record Held (t : Row) : Type 0 where

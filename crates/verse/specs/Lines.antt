@@ -1,7 +1,7 @@
 -- The rewrite rules, a definition for each line of the figure. A line has a left side, which the redex, down the
 -- inner place, has or has not (12); the words after "if" or "unless" (13); and a right side. k, x, y are
 -- payloads; v, e, eq (here q), hnf (here h) are the grammar's letters; the nearest binder is 0.
-use Rattle.std.specs.Prelude.{◌≡◌, ℕ, zero, suc, ◌+◌, ◌^◌, ◌<◌, ◌≤◌, ◌⊎◌, List, [], ◌∷◌, ◌++◌, ℤ, ◌+ℤ◌, ◌≤ℤ◌, ◌<ℤ◌, FitsSigned}
+use Rattle.std.specs.Prelude.{◌≡◌, ℕ, suc, ◌^◌, ◌<◌, ◌≤◌, List, ◌∷◌, ◌++◌, ℤ, ◌+ℤ◌, ◌≤ℤ◌, ◌<ℤ◌, FitsSigned}
 use Rattle.std.specs.Int.{w32}
 use Rattle.std.proofs.Common.{to_z, of_z}
 use Rattle.calculus.specs.Line.{Line, always, only_if, Gives}

@@ -1,4 +1,4 @@
-use Rattle.std.proofs.Common.{◌≡◌, ℕ, ◌*◌, ◌<◌, length, get_or, inl, inr, arith}
+use Rattle.std.proofs.Common.{◌≡◌, ◌*◌, ◌<◌, length, inl, inr, arith}
 use Rattle.cell_bytes.proofs.Fills.{Bytes, filled, cells_lack, cells_over}
 use Rattle.cell_bytes.proofs.cells_amiss.Goals as goal
 
