@@ -1,4 +1,6 @@
 // Calls that Rust links, for tests and measurements.
+#![tactic(auto)]
+
 ghost use Rattle.ffi.specs.Depths.{DepthOf};
 
 use layout::{DEPTH_MOST, Walk, layout};

@@ -1,4 +1,6 @@
 // Steps of let-rewriting on good and bad input, a line for each: the number of cells that a step gives, or its refusal.
+#![tactic(auto)]
+
 use calculus::Calculus;
 use rewriting::LetRewriting;
 

@@ -41,7 +41,7 @@ pub fn matching_stands() -> u8
 
 // Both laws, for every rule.
 pub fn both_laws() -> u8
-    ensures { (FirstLaw) × (SecondLaw) }
+    ensures { FirstLaw × SecondLaw }
 {
     0
 }

@@ -1,5 +1,5 @@
 -- Where a free variable occurs among trees.
-use Rattle.std.specs.Prelude.{◌≡◌, ℕ, ◌+◌, ◌<◌, List, [], ◌∷◌, ◌++◌, get_or, Some, None, Option, ◌≢◌, slice_index_or}
+use Rattle.std.specs.Prelude.{◌≡◌, ℕ, ◌+◌, ◌<◌, List, [], ◌∷◌, ◌++◌, Some, None, Option, ◌≢◌, slice_index_or}
 use Rattle.terms.specs.Cells.{binder}
 use Rattle.terms.specs.Lists.{In}
 use Rattle.terms.specs.Rows.{Row, size, above, frees}
@@ -16,7 +16,7 @@ numbers d b (node c ks r) = free (above d b r) c ∷ numbers (above d b r) (bind
 -- x is free in the trees, and their cell number k, from 0, is the first that has it
 pub record Occurs (x d b : ℕ) (t : Row) (k : ℕ) : Type 0 where
   pub free : In x (frees d b t)
-  pub here : get_or (numbers d b t) k None ≡ Some x
+  pub here : slice_index_or (numbers d b t) k None ≡ Some x
   pub before : (j : ℕ) → j < k → slice_index_or (numbers d b t) j None ≢ Some x
 
 -- Of trees that stand at a cell: the first cell that has x, or else where they end.

@@ -23,7 +23,7 @@ pub fn end_of(cells: &[u64], at: usize, n: usize) -> usize
 
 // Whether the tree at a cell, under d binders, fits the room with trees put for its free variables: where it
 // ends, and the room that it leaves.
-#[cycle(count_row_count_tree)]
+#[cycle(counting)]
 pub fn count_tree(
     cells: &[u64],
     at: usize,
@@ -56,7 +56,7 @@ pub fn count_tree(
 }
 
 // The same of n trees, the last of which lies under b more binders.
-#[cycle(count_row_count_tree)]
+#[cycle(counting)]
 pub fn count_row(
     cells: &[u64],
     at: usize,
@@ -80,7 +80,7 @@ pub fn count_row(
 
 // Writes the tree at a cell, under d binders, over the space from `to` on, with the trees among the values put
 // for its free variables. Answers where it ends, and where what was written does.
-#[cycle(substitute_row_substitute_tree)]
+#[cycle(substituting)]
 pub fn substitute_tree(
     cells: &[u64],
     at: usize,
@@ -119,7 +119,7 @@ pub fn substitute_tree(
 }
 
 // The same of n trees, the last of which lies under b more binders.
-#[cycle(substitute_row_substitute_tree)]
+#[cycle(substituting)]
 pub fn substitute_row(
     cells: &[u64],
     at: usize,

@@ -13,7 +13,7 @@ use Rattle.terms.proofs.Readings.{reads_flat}
 use Rattle.terms.proofs.Steps.{over-++}
 use Rattle.pieces.specs.declared.piece.Piece.{Piece}
 use Rattle.pieces.specs.declared.piece.Piece.TheVariants.{Cell, Copy, Moved}
-use Rattle.pieces.specs.Shown.{between, shown, shown_all, Sound, Sound_all, extent, extent_all}
+use Rattle.pieces.specs.Shown.{between, shown, shown_all, Sound, SoundAll, extent, extent_all}
 
 -- the cells of trees that stand in a list
 pub stands_between : (t : Row) (n : ℕ) (cells : List ℕ) (a e : ℕ) → Stands t n cells a → e ≡ a + size t → between cells a e ≡ flat t
@@ -36,7 +36,7 @@ shown_extent cells (Moved a e how) h =
     let t = h.0.tree in
     ap length (stands_moved t 1 cells a e how h.0.stands h.0.ends) ∙ flat_size (rename (renamed how) 0 0 t) ∙ omega (arith, rename_size (renamed how) 0 0 t, h.0.ends)
 
-pub shown_extents : (cells : List ℕ) (ps : List Piece) → Sound_all cells ps → length (shown_all cells ps) ≡ extent_all ps
+pub shown_extents : (cells : List ℕ) (ps : List Piece) → SoundAll cells ps → length (shown_all cells ps) ≡ extent_all ps
 shown_extents cells [] h = refl
 shown_extents cells (p ∷ ps) h =
     omega (arith, length-append (shown cells p) (shown_all cells ps), shown_extent cells p h.0, shown_extents cells ps h.1)
@@ -47,8 +47,8 @@ over_all cells p ps space to j h k =
     over-++ space to (shown cells p) (shown_all cells ps) j (omega (arith, shown_extent cells p h))
 
 -- what is left of the pieces: the next one, and the others
-pub sound_more : (cells : List ℕ) (ps : List Piece) (i : ℕ) (d : Piece) → i < length ps → Sound_all cells (drop i ps) → Sound cells (get_or ps i d) × Sound_all cells (drop (i + 1) ps)
-sound_more cells ps i d h s = subst (Sound_all cells) (drop_more ps i d h) s
+pub sound_more : (cells : List ℕ) (ps : List Piece) (i : ℕ) (d : Piece) → i < length ps → SoundAll cells (drop i ps) → Sound cells (get_or ps i d) × SoundAll cells (drop (i + 1) ps)
+sound_more cells ps i d h s = subst (SoundAll cells) (drop_more ps i d h) s
 
 pub extent_more : (ps : List Piece) (i : ℕ) (d : Piece) → i < length ps → extent_all (drop i ps) ≡ extent (get_or ps i d) + extent_all (drop (i + 1) ps)
 extent_more ps i d h = ap extent_all (drop_more ps i d h)

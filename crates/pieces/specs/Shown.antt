@@ -33,9 +33,9 @@ Sound cells (Cell c) = Unit {0}
 Sound cells (Copy a e) = (a ≤ e) × (e ≤ length cells)
 Sound cells (Moved a e how) = Spans cells a e × (most how < 2 ^ 32)
 
-abbrev pub Sound_all : List ℕ → List Piece → Type 0
-Sound_all cells [] = Unit {0}
-Sound_all cells (p ∷ ps) = Sound cells p × Sound_all cells ps
+abbrev pub SoundAll : List ℕ → List Piece → Type 0
+SoundAll cells [] = Unit {0}
+SoundAll cells (p ∷ ps) = Sound cells p × SoundAll cells ps
 
 -- how many cells
 abbrev pub extent : Piece → ℕ

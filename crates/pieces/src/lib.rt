@@ -3,7 +3,7 @@
 
 ghost use Rattle.std.specs.Prelude.{◌≡◌, ◌+◌, ◌≤◌, length};
 ghost use Rattle.terms.specs.Lists.{over};
-ghost use Rattle.pieces.specs.Shown.{shown, shown_all, Sound, Sound_all, extent, extent_all, Counted, Put};
+ghost use Rattle.pieces.specs.Shown.{shown, shown_all, Sound, SoundAll, extent, extent_all, Counted, Put};
 
 pub mod piece;
 pub mod span;
@@ -55,7 +55,7 @@ fn put(cells: &[u64], piece: Piece, space: &mut [u64], to: usize)
 
 // Writes the pieces one after the other over the space from its front on.
 fn put_all(cells: &[u64], pieces: &[Piece], space: &mut [u64])
-    requires sound { Sound_all cells.now pieces.now }
+    requires sound { SoundAll cells.now pieces.now }
     requires fits { extent_all pieces.now ≤ length space.old }
     ensures { space.new ≡ over space.old 0 (shown_all cells.now pieces.now) }
 {
@@ -69,7 +69,7 @@ fn put_all(cells: &[u64], pieces: &[Piece], space: &mut [u64])
 // Writes the pieces one after the other at the front of the space, and answers how many cells these are; none, and
 // nothing written, where the space has not so many.
 pub fn write(cells: &[u64], pieces: &[Piece], space: &mut [u64]) -> Option<usize>
-    requires { Sound_all cells.now pieces.now }
+    requires { SoundAll cells.now pieces.now }
     ensures { Put (shown_all cells.now pieces.now) space.old space.new result }
 {
     let n = count(pieces, space.len())?;

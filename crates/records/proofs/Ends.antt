@@ -1,8 +1,7 @@
 -- Steps in bytes are read in one way. Assumes nothing.
-use Rattle.std.proofs.Common.{◌≡◌, ℕ, ◌+◌, ◌*◌, ◌/◌, ◌%◌, ◌^◌, ◌<◌, List, [], ◌∷◌, ◌++◌, length, sym, refl, ap, ◌∙◌, append_assoc, arith}
+use Rattle.std.proofs.Common.{◌≡◌, ℕ, ◌+◌, ◌*◌, ◌/◌, ◌%◌, ◌^◌, ◌<◌, List, [], ◌∷◌, ◌++◌, length, sym, refl, ◌∙◌, append_assoc, arith}
 use Rattle.cell_bytes.specs.Spelling.{spell}
 use Rattle.cell_bytes.proofs.Ends.{Delimited, many_end, by_bytes, over_16, over_8}
-use Rattle.runs.specs.Steps.{Step}
 use Rattle.records.specs.Records.{head_of, spell_step, Spelt, Steps}
 
 -- lists of one length, with more behind them

@@ -1,4 +1,6 @@
 // Steps in bytes: rule 6 bits, place length 9, inner length 9, argument 8, then one byte an entry.
+#![tactic(auto)]
+
 ghost use Rattle.records.specs.Reading.{HeadRead, StepRead, StepsMeasured};
 
 pub mod record;

@@ -1,4 +1,6 @@
 // Reads a script of calls from standard input, performs it on a fresh run, and prints a line for each call.
+#![tactic(auto)]
+
 use layout::Walk;
 use rewriting::LetRewriting;
 use runs::call::{Answer, Call, Lent, Said, Settlement, State, Told};

@@ -1,5 +1,5 @@
 -- What the calculus is asked, by what its parts answer. Assumes nothing.
-use Rattle.std.proofs.Common.{◌≡◌, ℕ, zero, suc, ◌-◌, ◌<◌, ◌≤◌, Bool, true, false, eqb, List, [], ◌∷◌, length, take, drop, replicate, is_some, is_ok, Some, None, Ok, Err, Option, Result, sym, refl, subst, arith}
+use Rattle.std.proofs.Common.{◌≡◌, ℕ, zero, suc, ◌-◌, ◌<◌, Bool, true, eqb, List, [], ◌∷◌, length, take, drop, replicate, is_some, is_ok, Some, None, Ok, Err, Option, Result, sym, refl, subst, arith}
 use Rattle.std.proofs.lemmas.Bool.Decides.{nat_tests}
 use Rattle.terms.specs.Rows.{Row, flat, Place, width}
 use Rattle.terms.specs.Rows.Row.{none, node}
@@ -16,9 +16,8 @@ use Rattle.calculus.specs.Line.{Redex}
 use Rattle.lets.specs.Answers.{TermJudged}
 use Rattle.lets.specs.Meaning.{meaning}
 use Rattle.lets.specs.Owned.{RuleStands, RuleAsked}
-use Rattle.lets.specs.Syntax.{admits, kids, Lawful, Term, Site}
+use Rattle.lets.specs.Syntax.{admits, kids, Lawful, Term}
 use Rattle.lets.specs.Syntax.Sort.{term}
-use Rattle.lets.proofs.Judges.{term_kids}
 use Rattle.lets.proofs.Meaning.{formed}
 use Rattle.rewriting.specs.Matchings.{RuleOf}
 

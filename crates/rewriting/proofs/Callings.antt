@@ -1,5 +1,5 @@
 -- A program rule and a redex: the rule's parts, where they stand, and when the redex is a call of it. Assumes nothing.
-use Rattle.std.proofs.Common.{◌≡◌, ℕ, suc, ◌+◌, ◌-◌, ◌<◌, ◌≤◌, Bool, true, false, cond, ltb, ◌⊎◌, List, [], ◌∷◌, ◌++◌, length, get_or, take, drop, replicate, sym, refl, ap, ◌∙◌, subst, inl, inr, ⊎_elim, append-nil, arith}
+use Rattle.std.proofs.Common.{◌≡◌, ℕ, ◌+◌, ◌-◌, ◌<◌, ◌≤◌, Bool, true, false, cond, ltb, ◌⊎◌, List, [], ◌∷◌, ◌++◌, length, get_or, take, drop, sym, refl, ap, ◌∙◌, subst, inl, inr, ⊎_elim, append-nil, arith}
 use Rattle.std.proofs.lemmas.Bool.Decides.{nat_tests}
 use Rattle.terms.specs.Cells.{kind, binder, children, zeros, payload, cell, loose}
 use Rattle.terms.specs.Rows.{Row, flat, size, width, ◌&◌, frees, fvs, Free, Layout, Counted, substitute, pick}
@@ -12,7 +12,7 @@ use Rattle.terms.proofs.Moves.{free_left, plain_out}
 use Rattle.calculus.specs.Line.{Gives}
 use Rattle.moves.specs.declared.images.Span.{Span}
 use Rattle.moves.proofs.Substitutes.{tree_here}
-use Rattle.lets.specs.Syntax.{admits, Lawful, Term, Terms, fun, marked, arrow, light, ProgramRule}
+use Rattle.lets.specs.Syntax.{admits, Lawful, Terms, fun, marked, arrow, light, ProgramRule}
 use Rattle.lets.specs.Syntax.Sort.{term, left, pattern}
 use Rattle.lets.specs.Checks.{EachOnce}
 use Rattle.lets.specs.Figure.{Called, Match, binding, fapp}

@@ -1,5 +1,5 @@
 -- A cell is the number of its fields. Assumes nothing.
-use Rattle.std.proofs.Common.{◌≡◌, ℕ, ◌+◌, ◌*◌, ◌/◌, ◌%◌, ◌^◌, ◌<◌, ◌≤◌, sym, ◌∙◌, arith}
+use Rattle.std.proofs.Common.{◌≡◌, ℕ, ◌+◌, ◌*◌, ◌/◌, ◌%◌, ◌^◌, ◌<◌, ◌≤◌, arith}
 use native.Mathlib.Nat.{div-div-eq-div-mul}
 use Rattle.terms.specs.Cells.{kind, binder, children, zeros, payload, cell}
 

@@ -1,11 +1,11 @@
 -- Patterns and terms walked side by side: what is still to match, and what is bound so far. Assumes nothing.
-use Rattle.std.proofs.Common.{◌≡◌, ℕ, zero, suc, ◌+◌, ◌-◌, ◌<◌, ◌≤◌, Bool, true, false, cond, eqb, ◌⊎◌, List, [], ◌∷◌, ◌++◌, length, get_or, drop, set, replicate, Some, sym, refl, ap, ◌∙◌, subst, inl, inr, ⊎_elim, append_assoc, append-nil, arith, length-append, get_or-set_other, get_or-set_same}
+use Rattle.std.proofs.Common.{◌≡◌, ℕ, suc, ◌+◌, ◌-◌, ◌<◌, ◌≤◌, true, false, cond, eqb, List, [], ◌∷◌, ◌++◌, length, get_or, drop, set, Some, sym, refl, ap, ◌∙◌, subst, inl, inr, ⊎_elim, append_assoc, append-nil, arith, length-append, get_or-set_other, get_or-set_same}
 use lib.ListN.{length-replicate}
 use Rattle.std.proofs.lemmas.Bool.Decides.{nat_tests}
 use Rattle.std.proofs.lemmas.List.{drop_more, drop_all}
 use Rattle.terms.specs.Cells.{kind, binder, children, payload, loose}
 use Rattle.terms.specs.Lists.{In}
-use Rattle.terms.specs.Rows.{Row, flat, size, width, ◌&◌, above, own, frees, fvs}
+use Rattle.terms.specs.Rows.{Row, flat, size, width, ◌&◌, own, frees, fvs}
 use Rattle.terms.specs.Rows.Row.{none, node}
 use Rattle.terms.specs.Standing.{Stands}
 use Rattle.terms.proofs.Inject.{under, next, empty, lawful_width, width-&}
@@ -15,13 +15,13 @@ use Rattle.terms.proofs.Moves.{in-++, in_left, in_right, ground}
 use Rattle.moves.proofs.Substitutes.{tree_here}
 use Rattle.moves.specs.declared.images.Span.{Span}
 use Rattle.moves.specs.Images.{span}
-use Rattle.lets.specs.Syntax.{Sort, admits, kids, Lawful, Term, Terms}
+use Rattle.lets.specs.Syntax.{admits, kids, Lawful, Term, Terms}
 use Rattle.lets.specs.Syntax.Sort.{term, pattern}
 use Rattle.lets.specs.Checks.{EachOnce}
 use Rattle.lets.specs.Figure.{Match, binding}
 use Rattle.lets.proofs.Judges.{term_kids, pattern_kids}
-use Rattle.rewriting.specs.Matchings.{Facing, Lies, Bound, Matched}
-use Rattle.rewriting.proofs.Standings.{stands_left, stands_right, kids_here}
+use Rattle.rewriting.specs.Matchings.{Facing, Lies, Matched}
+use Rattle.rewriting.proofs.Standings.{stands_left, stands_right}
 use Rattle.rewriting.proofs.Counts.{once_below, below_once, once_before}
 use Rattle.rewriting.proofs.SideBySide.{Each, each_of, each-&, fvs-&, side, side_wide, side_pick, side_terms, rows_same}
 

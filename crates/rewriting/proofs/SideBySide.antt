@@ -1,5 +1,5 @@
 -- Rows of trees side by side: lawful ones, their free variables, their trees by number. Assumes nothing.
-use Rattle.std.proofs.Common.{◌≡◌, ℕ, zero, suc, ◌+◌, ◌<◌, ◌≤◌, Bool, true, false, ◌&&◌, List, [], ◌∷◌, ◌++◌, replicate, sym, refl, ap, ◌∙◌, subst, append_assoc, arith}
+use Rattle.std.proofs.Common.{◌≡◌, ℕ, zero, suc, ◌<◌, Bool, true, false, ◌&&◌, [], ◌++◌, replicate, sym, refl, ap, ◌∙◌, subst, append_assoc, arith}
 use lib.ListN.{length-replicate}
 use Rattle.terms.specs.Cells.{binder}
 use Rattle.terms.specs.Rows.{Row, width, ◌&◌, fvs, frees, own, above, pick}

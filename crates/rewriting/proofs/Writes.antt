@@ -1,5 +1,5 @@
 -- A row written at the front of a space piece by piece, for a line that gives it. Assumes nothing.
-use Rattle.std.proofs.Common.{◌≡◌, ℕ, ◌+◌, ◌≤◌, List, [], ◌∷◌, ◌++◌, length, sym, refl, ap, ◌∙◌, arith, length-append}
+use Rattle.std.proofs.Common.{◌≡◌, ℕ, ◌+◌, ◌≤◌, List, [], ◌++◌, length, sym, refl, ap, ◌∙◌, arith, length-append}
 use Rattle.terms.specs.Lists.{over}
 use Rattle.terms.specs.Rows.{Row, flat, size}
 use Rattle.terms.proofs.Trees.{flat_size}

@@ -1,4 +1,6 @@
 // Let-rewriting over a program, as a calculus.
+#![tactic(auto)]
+
 ghost use Rattle.std.specs.Prelude.{◌<◌, Decides};
 ghost use Rattle.terms.specs.Rows.{width};
 ghost use Rattle.calculus.specs.Figures.{Spells};

@@ -1,4 +1,6 @@
 // Lists of calls on good and bad input, a line for each: what a run over let-rewriting answers to the last call.
+#![tactic(auto)]
+
 use layout::Walk;
 use rewriting::LetRewriting;
 use runs::call::{Answer, Call, Lent, Settlement};

@@ -1,11 +1,10 @@
 -- The cells that bytes spell, and a wrong cell among the first of them. Assumes nothing.
-use Rattle.std.proofs.Common.{◌≡◌, ℕ, zero, suc, ◌+◌, ◌-◌, ◌*◌, ◌/◌, ◌^◌, ◌<◌, ◌≤◌, min, Bool, true, false, ltb, ◌⊎◌, List, [], ◌∷◌, ◌++◌, length, get_or, take, drop, Some, Ok, Err, sym, refl, ap, ◌∙◌, subst, inl, inr, append_assoc, append-nil, arith, length-append, length-drop, take-append-drop}
+use Rattle.std.proofs.Common.{◌≡◌, ℕ, zero, suc, ◌+◌, ◌*◌, ◌/◌, ◌^◌, ◌<◌, ◌≤◌, Bool, true, false, ltb, List, [], ◌∷◌, ◌++◌, length, get_or, take, drop, Some, sym, refl, ap, ◌∙◌, subst, inl, inr, append_assoc, append-nil, arith, length-append, length-drop, take-append-drop}
 use Rattle.std.proofs.lemmas.List.{take-append-le, take_all, get_or-drop, get_or_append_left, length-take-le}
 use Rattle.std.proofs.lemmas.Bool.Decides.{nat_tests}
-use Rattle.terms.specs.Lists.{All}
 use Rattle.terms.specs.Terms.{Laid}
 use Rattle.terms.specs.Cells.{payload, Variable, Fields}
-use Rattle.terms.specs.Layout.{parents, walked, binders, Wrong, fields, far, deep, many, past, Broken, LayoutJudged}
+use Rattle.terms.specs.Layout.{parents, walked, binders, Wrong, fields, far, deep, many, past, Broken}
 use Rattle.terms.proofs.Walks.{laid_right}
 use Rattle.cell_bytes.specs.Spelling.{spell, spell_cell, CellsRead}
 use Rattle.cell_bytes.proofs.Words.{word, spell_word, eight, all-++}

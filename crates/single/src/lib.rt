@@ -1,4 +1,6 @@
 // The checker of a single term: its cells in bytes, judged by the layout.
+#![tactic(auto)]
+
 ghost use Rattle.std.specs.Prelude.{◌≡◌, ◌<◌, length, drop};
 ghost use Rattle.single.specs.Verdicts.{TermJudged, CellsLeft};
 

@@ -1,4 +1,6 @@
 // Reads a term from standard input, eight bytes a cell, and prints whether it keeps the layout.
+#![tactic(auto)]
+
 use layout::{CELLS_MOST, DEPTH_MOST, Walk};
 use single::verdict::Verdict;
 use single::{BYTES_MOST, judge};

@@ -1,4 +1,6 @@
 // Judges terms at the limits of the layout, and prints a line for each.
+#![tactic(auto)]
+
 use layout::{CELLS_MOST, DEPTH_MOST, Walk};
 use single::judge;
 use single::verdict::Verdict;

@@ -3,7 +3,7 @@
 -- payloads; v, e, eq (here q), hnf (here h) are the grammar's letters; the nearest binder is 0.
 use Rattle.std.specs.Prelude.{◌≡◌, ℕ, suc, ◌^◌, ◌<◌, ◌≤◌, List, ◌∷◌, ◌++◌, ℤ, ◌+ℤ◌, ◌≤ℤ◌, ◌<ℤ◌, FitsSigned}
 use Rattle.std.specs.Int.{w32}
-use Rattle.std.proofs.Common.{to_z, of_z}
+use mir.Val.{to_z, of_z}
 use Rattle.calculus.specs.Line.{Line, always, only_if, Gives}
 use Rattle.terms.specs.Rows.{Row, width, kind_of, ◌&◌, var, Free, up, down, exchange, replace}
 use Rattle.terms.specs.Rows.Row.{none, node}

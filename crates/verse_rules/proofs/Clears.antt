@@ -1,13 +1,13 @@
 -- Where a variable lies under tuples. Assumes nothing.
-use Rattle.std.proofs.Common.{◌≡◌, ℕ, suc, ◌+◌, ◌^◌, ◌<◌, ◌≤◌, Bool, true, false, not, ◌&&◌, ◌||◌, eqb, is_some, Some, None, Decides, Option, sym, refl, ap, ◌∙◌, subst, arith}
+use Rattle.std.proofs.Common.{◌≡◌, ℕ, ◌+◌, Bool, true, false, not, ◌&&◌, ◌||◌, eqb, is_some, Some, None, Decides, Option, sym, refl, ap, ◌∙◌, arith}
 use mathlib.Core.Bool.{false≢true}
 use Rattle.std.proofs.lemmas.Bool.{eq-eqb, ne_eqb, eqb-true}
 use Rattle.terms.specs.Cells.{kind, cell}
-use Rattle.terms.specs.Rows.{Row, size, width, ◌&◌, var}
-use Rattle.terms.specs.Rows.Row.{none, node}
+use Rattle.terms.specs.Rows.{Row, size, var}
+use Rattle.terms.specs.Rows.Row.{node}
 use Rattle.terms.proofs.Inject.{top}
 use Rattle.verse.specs.Syntax.{Val}
-use Rattle.verse.specs.Contexts.{V, ◌⟨◌⟩, lies}
+use Rattle.verse.specs.Contexts.{lies}
 use Rattle.verse.specs.Contexts.V.{▢, among}
 use Rattle.verse.specs.Lines.{Word, Holds, Deep}
 use Rattle.verse.proofs.Occurs.{occurrence}

@@ -1,14 +1,14 @@
 -- Two heads that can never be equal. Assumes nothing.
-use Rattle.std.proofs.Common.{◌≡◌, ℕ, zero, suc, ◌+◌, ◌^◌, ◌<◌, ◌≤◌, List, [], ◌∷◌, sym, refl, ap, ◌∙◌, subst, arith}
+use Rattle.std.proofs.Common.{◌≡◌, ℕ, zero, suc, List, sym, refl, ap, ◌∙◌, subst, arith}
 use Rattle.calculus.specs.Line.{Gives}
 use Rattle.pieces.specs.declared.span.Span.{Span}
 use Rattle.terms.specs.Cells.{kind, children, payload, cell}
 use Rattle.terms.specs.Rows.{Row, width, kind_of}
 use Rattle.terms.specs.Rows.Row.{none, node}
 use Rattle.terms.proofs.Inject.{top}
-use Rattle.verse.specs.Syntax.{int, tuple, seq, eqn, kids, Hnf}
+use Rattle.verse.specs.Syntax.{int, tuple, seq, eqn, Hnf}
 use Rattle.verse.specs.Syntax.Sort.{hnf, exp}
-use Rattle.verse.specs.Lines.{u_lit, u_tup, u_fail, Heads, NotLambda}
+use Rattle.verse.specs.Lines.{u_lit, u_tup, u_fail, Heads}
 use Rattle.verse.proofs.MoreLawsParts.{one_wide, tuple_few}
 use Rattle.verse_rules.specs.Reads.{Reads}
 use Rattle.verse_rules.specs.Tests.{Apart}

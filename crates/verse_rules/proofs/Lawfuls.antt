@@ -1,17 +1,16 @@
 -- A lawful tree by its first cell: the form that it has, and where its parts lie. Assumes nothing.
-use Rattle.std.proofs.Common.{◌≡◌, ℕ, zero, suc, ◌+◌, ◌^◌, ◌<◌, ◌≤◌, Bool, true, false, cond, ◌&&◌, ◌||◌, List, [], ◌∷◌, ◌++◌, length, IsErrAnd, Some, None, Ok, Err, Option, Result, sym, refl, ap, ◌∙◌, subst, append-nil, arith}
-use Rattle.std.proofs.lemmas.Bool.Decides.{nat_tests}
+use Rattle.std.proofs.Common.{◌≡◌, ℕ, ◌≤◌, List, [], ◌∷◌, length, IsErrAnd, Some, None, Ok, Err, Option, Result, sym, refl, ap, ◌∙◌, subst, append-nil, arith}
 use Rattle.std.specs.Option.{ok_or}
 use Rattle.calculus.specs.declared.no.No.{No}
 use Rattle.calculus.specs.declared.no.No.TheVariants.{Formless}
 use Rattle.pieces.specs.declared.span.Span.{Span}
-use Rattle.pieces.specs.Parts.{Lies, Topped, Single, Paired}
-use Rattle.terms.specs.Cells.{kind, children, payload, cell}
+use Rattle.pieces.specs.Parts.{Topped, Single, Paired}
+use Rattle.terms.specs.Cells.{kind, payload, cell}
 use Rattle.terms.specs.Rows.{Row, flat, size, width, ◌&◌, var}
 use Rattle.terms.specs.Rows.Row.{none, node}
-use Rattle.terms.proofs.Inject.{top, lawful_width}
+use Rattle.terms.proofs.Inject.{lawful_width}
 use Rattle.terms.proofs.Trees.{flat_size}
-use Rattle.verse.specs.Syntax.{Sort, admits, kids, children_of, Lawful, Val, Hnf, Exp, Equ, Term, int, seq, eqn}
+use Rattle.verse.specs.Syntax.{Sort, admits, kids, Lawful, Val, Hnf, Term, int, seq, eqn}
 use Rattle.verse.specs.Syntax.Sort.{val, hnf, exp, equ}
 use Rattle.verse_rules.specs.Reads.{Reads, Two, Sole, Three, Leaf, Headed}
 use Rattle.verse_rules.proofs.Counts.{lawful_counted}

@@ -1,17 +1,17 @@
 -- Pieces that make a tree, and a rule's answer from them. Assumes nothing.
-use Rattle.std.proofs.Common.{◌≡◌, ℕ, ◌+◌, ◌-◌, ◌^◌, ◌<◌, ◌≤◌, List, [], ◌∷◌, ◌++◌, length, drop, IsErrAnd, Some, None, Ok, Err, Option, Result, sym, refl, ap, ◌∙◌, subst, append_assoc, append-nil, arith}
+use Rattle.std.proofs.Common.{◌≡◌, ℕ, ◌^◌, ◌<◌, List, [], ◌∷◌, ◌++◌, length, drop, IsErrAnd, Some, None, Ok, Err, Option, Result, sym, refl, ap, ◌∙◌, subst, arith}
 use Rattle.std.specs.Option.{ok_or}
 use Rattle.calculus.specs.declared.no.No.{No}
-use Rattle.calculus.specs.declared.no.No.TheVariants.{Formless, Barred, Oversum, Overlong}
+use Rattle.calculus.specs.declared.no.No.TheVariants.{Formless, Overlong}
 use Rattle.calculus.specs.Line.{Line, Gives, NoForm}
-use Rattle.calculus.specs.Written.{Written, Unwritten}
+use Rattle.calculus.specs.Written.{Written}
 use Rattle.moves.specs.declared.renaming.Renaming.{Renaming}
 use Rattle.moves.specs.Renamings.{renamed, most}
 use Rattle.pieces.specs.declared.piece.Piece.{Piece}
 use Rattle.pieces.specs.declared.piece.Piece.TheVariants.{Cell, Copy, Moved}
 use Rattle.pieces.specs.declared.span.Span.{Span}
 use Rattle.pieces.specs.Parts.{Lies}
-use Rattle.pieces.specs.Shown.{Put, shown, shown_all, Sound, Sound_all}
+use Rattle.pieces.specs.Shown.{Put, shown, shown_all, Sound, SoundAll}
 use Rattle.pieces.proofs.Parts.{split}
 use Rattle.pieces.proofs.Shows.{stands_between, stands_moved}
 use Rattle.terms.specs.Rows.{Row, flat, size, rename}
@@ -41,7 +41,7 @@ written ln u space space' (Err e) g w = subst (λ y. Written ln space space' (Er
 
 -- Pieces that show cells, from the last to the first.
 pub record Lays (cells : List ℕ) (ps : List Piece) (xs : List ℕ) : Type 0 where
-  pub sound : Sound_all cells ps
+  pub sound : SoundAll cells ps
   pub shows : shown_all cells ps ≡ xs
 
 pub nothing : (cells : List ℕ) → Lays cells [] []

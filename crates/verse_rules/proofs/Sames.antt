@@ -1,12 +1,12 @@
 -- A form has one way to be read. Assumes nothing.
-use Rattle.std.proofs.Common.{◌≡◌, ℕ, List, [], ◌∷◌, ◌++◌, sym, refl, ap, ◌∙◌, subst, append_assoc, append-nil}
+use Rattle.std.proofs.Common.{◌≡◌, ℕ, List, [], ◌∷◌, ◌++◌, sym, refl, ap, ◌∙◌, append_assoc, append-nil}
 use Rattle.terms.specs.Cells.{cell}
 use Rattle.terms.specs.Rows.{Row, flat, width, ◌&◌, var}
 use Rattle.terms.specs.Rows.Row.{none, node}
-use Rattle.terms.proofs.Inject.{top, under}
+use Rattle.terms.proofs.Inject.{under}
 use Rattle.pieces.specs.declared.span.Span.{Span}
 use Rattle.pieces.specs.Parts.{Lies}
-use Rattle.verse.specs.Syntax.{Sort, Lawful, seq, eqn, exists, tuple}
+use Rattle.verse.specs.Syntax.{Sort, seq, eqn, exists, tuple}
 use Rattle.verse_rules.specs.Reads.{Reads}
 use Rattle.verse.proofs.Unique.{two}
 

@@ -1,5 +1,5 @@
 -- Payloads cast to signed integers and back. Assumes nothing.
-use Rattle.std.proofs.Common.{◌≡◌, ℕ, ◌^◌, ◌<◌, ℤ, ◌+ℤ◌, ◌≤ℤ◌, ◌<ℤ◌, Decides, sym, refl, ap, ◌∙◌, subst, ap₂, arith, w32, SFits, to_z, of_z}
+use Rattle.std.proofs.Common.{◌≡◌, ℕ, ◌^◌, ◌<◌, ℤ, ◌≤ℤ◌, ◌<ℤ◌, Decides, ap, ◌∙◌, subst, arith, w32, SFits, to_z, of_z}
 use lib.Signed.{lt_z}
 use Rattle.std.proofs.lemmas.Int.{ints, of_z-to_z, to_z-of_z, by_lt_z}
 use Rattle.verse.specs.Lines.{value}

@@ -5,12 +5,12 @@ use Rattle.calculus.specs.declared.no.No.TheVariants.{Formless, Overlong}
 use Rattle.pieces.specs.declared.piece.Piece.{Piece}
 use Rattle.pieces.specs.declared.span.Span.{Span}
 use Rattle.pieces.specs.Parts.{Lies}
-use Rattle.pieces.specs.Shown.{shown_all, Sound_all}
+use Rattle.pieces.specs.Shown.{shown_all, SoundAll}
 use Rattle.terms.specs.Cells.{cell}
 use Rattle.terms.specs.Rows.{Row, flat, size, var, ◌&◌}
 use Rattle.terms.specs.Rows.Row.{none, node}
 use Rattle.verse.specs.Syntax.{Sort, Lawful, Val, Hnf, seq, eqn, app, int}
-use Rattle.verse.specs.Syntax.Sort.{val, hnf, exp, equ}
+use Rattle.verse.specs.Syntax.Sort.{val, hnf, exp}
 use Rattle.verse.specs.Lines.{Word, Pair, Binds}
 
 -- A lawful tree of the sort lies there.
@@ -69,7 +69,7 @@ Bound t cells (Err f) = (f ≡ Formless) × (Binds t → ⊥)
 
 -- The pieces lie within the cells, and show the cells of the tree.
 pub record Made (cells : List ℕ) (pieces : List Piece) (u : Row) : Type 0 where
-  pub sound : Sound_all cells pieces
+  pub sound : SoundAll cells pieces
   pub shows : shown_all cells pieces ≡ flat u
 
 -- The tree stands at the front of the space, the other cells as they were; or it has more cells than the space, which stays.

@@ -1,7 +1,7 @@
 -- What the words after "if" and "unless" ask.
 use Rattle.std.specs.Prelude.{◌≡◌, ℕ, ◌+◌, ◌≤◌, true, false, ℤ, Some, None, Option, FitsSigned, ◌≢◌}
 use Rattle.std.specs.Int.{w32}
-use Rattle.std.proofs.Common.{of_z}
+use mir.Val.{of_z}
 use Rattle.terms.specs.Cells.{kind}
 use Rattle.terms.specs.Rows.{Row, size, var}
 use Rattle.verse.specs.Syntax.{eqn, Val}

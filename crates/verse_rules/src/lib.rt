@@ -1,4 +1,6 @@
 // The rules of the Verse calculus that have no inner place.
+#![tactic(auto)]
+
 pub mod application;
 pub mod cells;
 pub mod choice;

@@ -1,5 +1,5 @@
 -- The judge of the Verse calculus: trees side by side.
-use Rattle.std.proofs.Common.{◌≡◌, ℕ, zero, suc, ◌+◌, ◌-◌, max, List, [], ◌∷◌, replicate, refl, ap, subst, arith}
+use Rattle.std.proofs.Common.{◌≡◌, ℕ, zero, suc, ◌-◌, max, List, [], ◌∷◌, replicate, refl, ap, subst, arith}
 use Rattle.terms.specs.Grammar.{Stuck, Lies}
 use Rattle.terms.proofs.Judgings.{stuck_front, stuck_after, lies_after}
 use Rattle.verse.specs.Syntax.{Sort, admits, kids}

@@ -1,17 +1,17 @@
 -- A lawful tree that stands at a cell, taken apart by its kind.
-use Rattle.std.proofs.Common.{◌≡◌, ℕ, suc, ◌+◌, ◌<◌, ◌≤◌, Bool, true, false, List, [], ◌∷◌, length, get_or, sym, refl, ap, ◌∙◌, subst, arith}
+use Rattle.std.proofs.Common.{◌≡◌, ℕ, suc, ◌+◌, ◌≤◌, Bool, true, false, List, [], ◌∷◌, get_or, sym, refl, ap, ◌∙◌, subst, arith}
 use Rattle.std.proofs.lemmas.Bool.Decides.{nat_tests}
 use Rattle.terms.specs.Cells.{kind, children, cell}
-use Rattle.terms.specs.Rows.{Row, size, width, kind_of, ◌&◌}
+use Rattle.terms.specs.Rows.{Row, size, ◌&◌}
 use Rattle.terms.specs.Rows.Row.{none, node}
 use Rattle.terms.specs.Standing.{Stands}
 use Rattle.terms.proofs.Inject.{top, under, next, empty}
 use Rattle.terms.proofs.Steps.{opened, moved, stands_first}
-use Rattle.verse.specs.Syntax.{Sort, plain, admits, kids, Lawful, Val, Exp, Equ, seq, eqn, exists, fail, choice, one, all}
-use Rattle.verse.specs.Syntax.Sort.{val, hnf, exp, equ}
+use Rattle.verse.specs.Syntax.{Sort, plain, admits, kids, Lawful, Exp, Equ, fail}
+use Rattle.verse.specs.Syntax.Sort.{val, exp, equ}
 use Rattle.verse_terms.specs.Forms.{equated, joined}
 use Rattle.verse_terms.proofs.Counts.{Form, a_leaf, a_tuple, a_lambda, an_application, a_sequence, an_equation, a_join, form_of}
-use Rattle.verse_terms.proofs.Parts.{Rooted, rooted}
+use Rattle.verse_terms.proofs.Parts.{rooted}
 use Rattle.verse_terms.proofs.Sorts.{kids_of, equ_else, kids_alike}
 
 plain_is : (k b n c : ℕ) → plain k b n c ≡ true → c ≡ cell k b n 0

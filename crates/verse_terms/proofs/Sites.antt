@@ -4,11 +4,10 @@ use Rattle.std.proofs.lemmas.List.{drop_more, drop_all}
 use Rattle.std.proofs.lemmas.Bool.Decides.{nat_tests}
 use Rattle.terms.specs.Cells.{kind, children}
 use Rattle.terms.specs.Descents.{ChildAt}
-use Rattle.terms.specs.Rows.{Row, flat, width, pick}
+use Rattle.terms.specs.Rows.{Row, flat, pick}
 use Rattle.terms.specs.Rows.Row.{none, node}
 use Rattle.terms.specs.Grammar.{At}
 use Rattle.terms.specs.Standing.{Stands}
-use Rattle.terms.proofs.Inject.{under}
 use Rattle.terms.proofs.Steps.{opened, moved}
 use Rattle.terms.proofs.Ways.{part_node, tree_stands, width_place}
 use Rattle.verse.specs.Syntax.{Sort, admits, kids, Lawful, Term, Calls, Site}

@@ -18,7 +18,7 @@ fn is_operator_first(cells: &[u64], at: usize, n: usize) -> bool
 
 // Is the tree at a cell choice-free: a value, a one, an all, an operator applied, or an exists, a sequence or an
 // equation of such?
-#[cycle(is_choice_free_is_tree_free)]
+#[cycle(choice_free)]
 fn is_tree_free(cells: &[u64], at: usize) -> bool
     requires { (t : Row) × Stands t 1 cells.now at }
     ensures { (t : Row) → Stands t 1 cells.now at → result ≡ choice_free t }
@@ -33,7 +33,7 @@ fn is_tree_free(cells: &[u64], at: usize) -> bool
 }
 
 // Is each of the n trees at a cell?
-#[cycle(is_choice_free_is_tree_free)]
+#[cycle(choice_free)]
 pub fn is_choice_free(cells: &[u64], at: usize, n: usize) -> bool
     requires { (t : Row) × Stands t n cells.now at }
     ensures { (t : Row) → Stands t n cells.now at → result ≡ choice_free t }

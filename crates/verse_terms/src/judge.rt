@@ -9,7 +9,7 @@ use crate::form::{
 use terms::cell::children;
 
 // Where the value at a cell ends, and its depth; or the first cell where no value can go on, else the count.
-#[cycle(expression_expressions_first_part_value_values)]
+#[cycle(judging)]
 fn value(cells: &[u64], at: usize) -> Result<(usize, usize), usize>
     requires { at ≤ length cells.now }
     ensures { From (val ∷ []) cells.now at result }
@@ -33,7 +33,7 @@ fn value(cells: &[u64], at: usize) -> Result<(usize, usize), usize>
 }
 
 // The same of n values side by side.
-#[cycle(expression_expressions_first_part_value_values)]
+#[cycle(judging)]
 fn values(cells: &[u64], at: usize, n: usize) -> Result<(usize, usize), usize>
     requires { at ≤ length cells.now }
     ensures { From (replicate n val) cells.now at result }
@@ -47,7 +47,7 @@ fn values(cells: &[u64], at: usize, n: usize) -> Result<(usize, usize), usize>
 }
 
 // The same of an expression.
-#[cycle(expression_expressions_first_part_value_values)]
+#[cycle(judging)]
 fn expression(cells: &[u64], at: usize) -> Result<(usize, usize), usize>
     requires { at ≤ length cells.now }
     ensures { From (exp ∷ []) cells.now at result }
@@ -73,7 +73,7 @@ fn expression(cells: &[u64], at: usize) -> Result<(usize, usize), usize>
 }
 
 // The same of n expressions side by side.
-#[cycle(expression_expressions_first_part_value_values)]
+#[cycle(judging)]
 fn expressions(cells: &[u64], at: usize, n: usize) -> Result<(usize, usize), usize>
     requires { at ≤ length cells.now }
     ensures { From (replicate n exp) cells.now at result }
@@ -87,7 +87,7 @@ fn expressions(cells: &[u64], at: usize, n: usize) -> Result<(usize, usize), usi
 }
 
 // The same of what a sequence begins with: an equation or an expression.
-#[cycle(expression_expressions_first_part_value_values)]
+#[cycle(judging)]
 fn first_part(cells: &[u64], at: usize) -> Result<(usize, usize), usize>
     requires { at ≤ length cells.now }
     ensures { From (equ ∷ []) cells.now at result }

@@ -1,4 +1,6 @@
 // The terms of the Verse calculus: which cells are one, and which places of it are sites.
+#![tactic(auto)]
+
 pub mod form;
 pub mod free;
 pub mod judge;

@@ -1,4 +1,4 @@
-use Rattle.std.proofs.Common.{◌≡◌, ◌+◌, ◌/◌, ◌%◌, ◌^◌, ◌<◌, length, drop, refl, arith, length-drop}
+use Rattle.std.proofs.Common.{◌+◌, ◌/◌, ◌%◌, ◌^◌, ◌<◌, length, drop, refl, arith}
 use Rattle.cell_bytes.proofs.Fills.{Bytes, bytes_drop}
 use Rattle.records.proofs.Heads.{size, lacks, cut_short, stands_cut}
 use Rattle.records.proofs.read_step.Goals as goal

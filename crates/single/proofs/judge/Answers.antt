@@ -1,4 +1,4 @@
-use Rattle.std.proofs.Common.{◌≡◌, ℕ, ◌-◌, ◌<◌, length, get_or, take, Err, sym, ap, ◌∙◌, subst, arith}
+use Rattle.std.proofs.Common.{◌≡◌, ℕ, ◌-◌, ◌<◌, length, get_or, take, Err, sym, ◌∙◌, subst, arith}
 use Rattle.terms.specs.Layout.{Kept}
 use Rattle.layout.specs.Answers.{Answered}
 use Rattle.layout.specs.declared.Fault.TheVariants.{Cell}

@@ -1,4 +1,4 @@
-use Rattle.std.proofs.Common.{◌≡◌, ◌-◌, length, take, drop, sym, ap, ◌∙◌, subst, arith}
+use Rattle.std.proofs.Common.{◌-◌, length, take, drop, sym, ap, ◌∙◌, subst, arith}
 use Rattle.terms.proofs.Steps.{size_within}
 use Rattle.moves.proofs.Substitutes.{tree_here}
 use Rattle.rewriting.specs.Matchings.{RuleOf}

@@ -1,4 +1,4 @@
-use Rattle.std.proofs.Common.{◌≡◌, ℕ, ◌+◌, true, false, List, sym, refl, ap, ◌∙◌, subst, arith}
+use Rattle.std.proofs.Common.{◌≡◌, ℕ, ◌+◌, false, List, sym, refl, ap, subst, arith}
 use Rattle.terms.specs.Rows.{Row, size, instead, instantiate}
 use Rattle.moves.specs.declared.images.Substitution.{Substitution}
 use Rattle.moves.specs.declared.images.Substitution.TheVariants.{Instead}

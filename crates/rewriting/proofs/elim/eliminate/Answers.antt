@@ -1,8 +1,6 @@
-use Rattle.std.proofs.Common.{◌-◌, sym, refl, ◌∙◌, subst, arith}
+use Rattle.std.proofs.Common.{◌-◌, refl, subst, arith}
 use Rattle.terms.specs.Rows.{Free, down}
 use Rattle.terms.proofs.Bridge.{rename_size}
-use Rattle.calculus.specs.Line.{Gives}
-use Rattle.lets.specs.Figure.{elim_let}
 use Rattle.rewriting.proofs.Standings.{spelled, spelled_size}
 use Rattle.rewriting.proofs.LetParts.{let_same, body_at, let_size}
 use Rattle.rewriting.proofs.Sought.{found_free, not_free}

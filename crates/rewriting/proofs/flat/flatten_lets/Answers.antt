@@ -1,4 +1,4 @@
-use Rattle.std.proofs.Common.{◌≡◌, ◌+◌, ◌-◌, List, [], ◌∷◌, ◌++◌, sym, refl, ap, ◌∙◌, subst, append_assoc, append-nil, arith, length-set}
+use Rattle.std.proofs.Common.{◌≡◌, ◌+◌, ◌-◌, [], ◌∷◌, ◌++◌, refl, ap, ◌∙◌, append_assoc, append-nil, arith, length-set}
 use Rattle.terms.specs.Lists.{over}
 use Rattle.terms.specs.Cells.{cell}
 use Rattle.terms.specs.Rows.{Row, flat, size, up_beyond, beyond}

@@ -1,4 +1,4 @@
-use Rattle.std.proofs.Common.{◌≡◌, true, sym, ap, ◌∙◌, arith, below_more}
+use Rattle.std.proofs.Common.{◌≡◌, true, sym, arith, below_more}
 use Rattle.terms.proofs.Steps.{size_within}
 use Rattle.moves.proofs.Substitutes.{tree_here}
 use Rattle.lets.specs.Syntax.{light}

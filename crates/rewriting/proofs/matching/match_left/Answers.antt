@@ -1,4 +1,4 @@
-use Rattle.std.proofs.Common.{◌≡◌, get_or, set, sym, refl, ap, ◌∙◌, arith}
+use Rattle.std.proofs.Common.{◌≡◌, get_or, set, refl, ap, ◌∙◌, arith}
 use Rattle.terms.specs.Cells.{kind}
 use Rattle.moves.specs.Images.{span}
 use Rattle.rewriting.proofs.Halfway.{going_start, going_as, going_front, going_end, first_below, variable_below, variable_term, variable_passed, other_cell, symbol_passed}

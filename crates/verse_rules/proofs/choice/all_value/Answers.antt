@@ -1,4 +1,4 @@
-use Rattle.std.proofs.Common.{sym, refl, ap, subst}
+use Rattle.std.proofs.Common.{sym, refl, subst}
 use Rattle.verse.specs.Syntax.{Val, tuple}
 use Rattle.verse.specs.Syntax.Sort.{exp}
 use Rattle.verse_rules.proofs.Makes.{refused, written, nothing, lay, copied, made}

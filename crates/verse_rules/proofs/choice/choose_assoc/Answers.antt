@@ -1,4 +1,4 @@
-use Rattle.std.proofs.Common.{sym, refl, ap, ◌∙◌, append_assoc, append-nil}
+use Rattle.std.proofs.Common.{refl, ap, ◌∙◌, append_assoc, append-nil}
 use Rattle.terms.proofs.Trees.{flat-&}
 use Rattle.verse.specs.Syntax.{choice}
 use Rattle.verse.specs.Syntax.Sort.{exp}

@@ -1,4 +1,4 @@
-use Rattle.std.proofs.Common.{◌≡◌, sym, refl, subst, append-nil}
+use Rattle.std.proofs.Common.{sym, refl, subst, append-nil}
 use Rattle.verse.specs.Syntax.{Val}
 use Rattle.verse.specs.Syntax.Sort.{val, exp, equ}
 use Rattle.verse.proofs.MoreLawsParts.{one_wide}

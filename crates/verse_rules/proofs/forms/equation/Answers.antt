@@ -1,6 +1,5 @@
 use Rattle.std.proofs.Common.{refl}
 use Rattle.verse.specs.Syntax.{eqn}
-use Rattle.verse.specs.Syntax.Sort.{equ}
 use Rattle.verse_rules.specs.Reads.{Three}
 use Rattle.verse_rules.proofs.Lawfuls.{erred, threefold}
 use Rattle.verse_rules.proofs.forms.equation.Goals as goal

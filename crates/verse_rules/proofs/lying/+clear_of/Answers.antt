@@ -1,4 +1,4 @@
-use Rattle.std.proofs.Common.{◌≡◌, sym, refl, ap, ◌∙◌, subst, arith}
+use Rattle.std.proofs.Common.{sym, refl, ap, ◌∙◌, subst, arith}
 use Rattle.terms.specs.Rows.{size}
 use Rattle.terms.proofs.Inject.{empty}
 use Rattle.terms.proofs.Steps.{opened, moved}

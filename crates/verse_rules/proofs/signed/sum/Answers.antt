@@ -1,4 +1,4 @@
-use Rattle.std.proofs.Common.{◌≡◌, ◌+ℤ◌, sym, subst, ap₂, arith, w32, SFits}
+use Rattle.std.proofs.Common.{◌+ℤ◌, sym, subst, ap₂, arith, w32, SFits}
 use Rattle.verse_rules.proofs.Signs.{cast_back, cast_sum}
 use Rattle.verse_rules.proofs.signed.sum.Goals as goal
 

@@ -1,4 +1,4 @@
-use Rattle.std.proofs.Common.{sym, refl, ◌∙◌, subst, append_assoc, append-nil}
+use Rattle.std.proofs.Common.{sym, refl, subst, append_assoc, append-nil}
 use Rattle.terms.proofs.Trees.{flat-&}
 use Rattle.verse.specs.Syntax.{seq, eqn, Val, Hnf}
 use Rattle.verse.specs.Syntax.Sort.{val, hnf, exp}

@@ -1,6 +1,6 @@
 use Rattle.std.proofs.Common.{sym, refl, ap, ◌∙◌, append-nil, arith}
 use Rattle.terms.proofs.Inject.{top}
-use Rattle.verse.specs.Syntax.{int, seq, eqn}
+use Rattle.verse.specs.Syntax.{int}
 use Rattle.verse.specs.Syntax.Sort.{val, exp}
 use Rattle.verse_rules.proofs.Makes.{refused, written, nothing, copied, made}
 use Rattle.verse_rules.proofs.Sames.{same_three, two_leaves}

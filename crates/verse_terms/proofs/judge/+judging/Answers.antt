@@ -4,7 +4,7 @@ use Rattle.verse.specs.Syntax.{admits, kids}
 use Rattle.verse.specs.Syntax.Sort.{val, exp, equ}
 use Rattle.verse_terms.proofs.Sorts.{filler, leaf_kids, tuple_kids, lambda_kids, application_kids, sequence_kids, equation_kids, joined_kids, val_leaf, val_tuple, val_lambda, val_else, exp_application, exp_sequence, exp_joined, exp_else, equ_equation, equ_else, kids_alike}
 use Rattle.verse_terms.proofs.Judges.{stuck_first, stuck_others, lies_others}
-use Rattle.verse_terms.proofs.judge.+expression_expressions_first_part_value_values.Goals as goal
+use Rattle.verse_terms.proofs.judge.+judging.Goals as goal
 
 -- an expression
 pub expression-returns-then-at-cells : goal.expression-returns-then-at-cells

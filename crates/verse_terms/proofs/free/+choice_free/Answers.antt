@@ -1,11 +1,11 @@
-use Rattle.std.proofs.Common.{◌≡◌, ◌≤◌, ◌&&◌, get_or, sym, refl, ap, ◌∙◌, inl, inr, arith}
+use Rattle.std.proofs.Common.{◌≡◌, ◌&&◌, get_or, sym, refl, ap, ◌∙◌, inl, inr, arith}
 use Rattle.terms.specs.Cells.{kind}
 use Rattle.terms.proofs.Inject.{empty}
 use Rattle.terms.proofs.Steps.{opened, moved, first_tree, stands_first}
-use Rattle.verse.specs.Contexts.{choice_free, operator_first}
+use Rattle.verse.specs.Contexts.{choice_free}
 use Rattle.verse_terms.proofs.Parts.{rooted}
 use Rattle.verse_terms.proofs.Choosing.{free_first, free_value, free_scope, free_parts, free_applied, unfree}
-use Rattle.verse_terms.proofs.free.+is_choice_free_is_tree_free.Goals as goal
+use Rattle.verse_terms.proofs.free.+choice_free.Goals as goal
 
 -- trees side by side
 pub is_choice_free-returns-then-n-eq0 : goal.is_choice_free-returns-then-n-eq0

@@ -1,5 +1,5 @@
 use Rattle.std.proofs.Common.{◌+◌, ◌-◌, ◌*◌, length}
-use Rattle.moves.proofs.substitution.+count_row_count_tree.Given as goal
+use Rattle.moves.proofs.substitution.+counting.Given as goal
 
 abbrev pub decreases-count_row : goal.decreases-count_row
 decreases-count_row l = 2 * (length l.cells.now - l.at) + 1

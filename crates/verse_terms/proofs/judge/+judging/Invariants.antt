@@ -1,5 +1,5 @@
 use Rattle.std.proofs.Common.{◌+◌, ◌-◌, ◌*◌, length}
-use Rattle.verse_terms.proofs.judge.+expression_expressions_first_part_value_values.Given as goal
+use Rattle.verse_terms.proofs.judge.+judging.Given as goal
 
 -- The cells left. At one cell an equation or a row may begin with an expression, and that with a value.
 abbrev pub decreases-value : goal.decreases-value

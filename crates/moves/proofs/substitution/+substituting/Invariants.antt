@@ -1,5 +1,5 @@
 use Rattle.std.proofs.Common.{◌+◌, ◌-◌, ◌*◌, length}
-use Rattle.moves.proofs.substitution.+substitute_row_substitute_tree.Given as goal
+use Rattle.moves.proofs.substitution.+substituting.Given as goal
 
 abbrev pub decreases-substitute_row : goal.decreases-substitute_row
 decreases-substitute_row l = 2 * (length l.cells.now - l.at) + 1

@@ -1,5 +1,5 @@
 use Rattle.std.proofs.Common.{◌+◌, ◌-◌, ◌*◌, length}
-use Rattle.verse_terms.proofs.free.+is_choice_free_is_tree_free.Given as goal
+use Rattle.verse_terms.proofs.free.+choice_free.Given as goal
 
 abbrev pub decreases-is_choice_free : goal.decreases-is_choice_free
 decreases-is_choice_free l = 2 * (length l.cells.now - l.at) + 1

@@ -6,7 +6,7 @@ use Rattle.moves.specs.Images.{extent}
 use Rattle.moves.specs.Substitutions.{Spent}
 use Rattle.moves.proofs.Renames.{first_is, first_most}
 use Rattle.moves.proofs.Substitutes.{alone, tree_here, tree_size, hit_size, miss_size, spent_miss, spent_row, spent_none, blanks, blanks_sizes}
-use Rattle.moves.proofs.substitution.+count_row_count_tree.Goals as goal
+use Rattle.moves.proofs.substitution.+counting.Goals as goal
 
 pub count_row-returns-then-n-eq0 : goal.count_row-returns-then-n-eq0
 count_row-returns-then-n-eq0 t c = λ u s st z.

@@ -2,7 +2,7 @@ use Rattle.std.proofs.Common.{◌<◌, length, get_or, refl, arith, length-set}
 use Rattle.terms.proofs.Steps.{opened, moved, first_tree, stands_first}
 use Rattle.moves.proofs.Renames.{first_is, first_most}
 use Rattle.moves.proofs.Substitutes.{alone, tree_here, hit_size, tree_hit, miss_size, tree_miss, sub_size, joined, nothing, shown_by}
-use Rattle.moves.proofs.substitution.+substitute_row_substitute_tree.Goals as goal
+use Rattle.moves.proofs.substitution.+substituting.Goals as goal
 
 pub substitute_row-returns-then-n-eq0 : goal.substitute_row-returns-then-n-eq0
 substitute_row-returns-then-n-eq0 t c = λ u s st z. nothing u s _ _ _ _ _ _ _ st c.if-n-eq0.true
