@@ -1,4 +1,4 @@
-use Rattle.std.proofs.Common.{vec_items, sym, ap, ◌∙◌, subst, inl, inr}
+use Rattle.std.proofs.Common.{vec_items, sym, ap, subst, inl, inr}
 use Rattle.terms.specs.Reading.{trees}
 use Rattle.lets.specs.Syntax.{Has}
 use Rattle.lets.specs.Owned.{GoodRules}
@@ -11,7 +11,7 @@ kept : (c : goal.Joined-is_some) → GoodRules (vec_items c.if-is_some.cells) ×
 kept c =
     owned (vec_items c.args.cells) (vec_items c.if-is_some.cells) c.first_bad_rule.result (subst (λ l. ProgramChecked l c.first_bad_rule.result) c.deref.ensures.value c.first_bad_rule.ensures)
     (elim c.if-is_some.branch [
-      | then-is_some w ↦ inl (sym w.if-is_some.ensures, ap vec_items w.cells-is ∙ w.clear.ensures.items)
+      | then-is_some w ↦ inl (sym w.if-is_some.ensures, cc)
       | else-is_some w ↦ inr (sym w.if-is_some.ensures, ap vec_items w.cells-is)
     ])
 

@@ -1,0 +1,4 @@
+pub mod Plugs
+pub mod Openings
+pub mod Walkings
+pub mod Branches
