@@ -20,15 +20,15 @@ bytes_take (suc n) (x ∷ l) b zero = b 0
 bytes_take (suc n) (x ∷ l) b (suc k) = bytes_take n l (λ i. b (suc i)) k
 
 -- zeros behind a list are what is read past its end anyway
-pub getD_padded : (l : List ℕ) (n k : ℕ) → get_or (l ++ replicate n 0) k 0 ≡ get_or l k 0
-getD_padded [] zero k = refl
-getD_padded [] (suc n) zero = refl
-getD_padded [] (suc n) (suc k) = getD_padded [] n k
-getD_padded (x ∷ l) n zero = refl
-getD_padded (x ∷ l) n (suc k) = getD_padded l n k
+pub get_or_padded : (l : List ℕ) (n k : ℕ) → get_or (l ++ replicate n 0) k 0 ≡ get_or l k 0
+get_or_padded [] zero k = refl
+get_or_padded [] (suc n) zero = refl
+get_or_padded [] (suc n) (suc k) = get_or_padded [] n k
+get_or_padded (x ∷ l) n zero = refl
+get_or_padded (x ∷ l) n (suc k) = get_or_padded l n k
 
 pub bytes_padded : (l : List ℕ) (n : ℕ) → Bytes l → Bytes (l ++ replicate n 0)
-bytes_padded l n b k = rw (getD_padded l n k) (b k)
+bytes_padded l n b k = rw (get_or_padded l n k) (b k)
 
 no_bytes : (l : List ℕ) → length l ≡ 0 → l ≡ []
 no_bytes [] e = refl

@@ -4,7 +4,7 @@ use lib.ListN.{length-replicate}
 use Rattle.std.proofs.lemmas.List.{drop_more, drop-drop, drop_all}
 use Rattle.terms.specs.Lists.{All}
 use Rattle.cell_bytes.specs.Holding.{Lacking}
-use Rattle.cell_bytes.proofs.Fills.{Bytes, bytes_drop, bytes_take, bytes_padded, getD_padded}
+use Rattle.cell_bytes.proofs.Fills.{Bytes, bytes_drop, bytes_take, bytes_padded, get_or_padded}
 use Rattle.runs.specs.Steps.{Step}
 use Rattle.records.specs.Records.{head_of, spell_step, Spelt}
 use Rattle.records.specs.Reading.{leading, Stands}
@@ -83,10 +83,10 @@ module _ (l : List ℕ) (b : Bytes l) (h : size l ≤ length l) where
 
 same_leading : (l : List ℕ) (n : ℕ) → leading (l ++ replicate n 0) ≡ leading l
 same_leading l n =
-    let a = getD_padded l n 0 in
-    let b = getD_padded l n 1 in
-    let c = getD_padded l n 2 in
-    let d = getD_padded l n 3 in
+    let a = get_or_padded l n 0 in
+    let b = get_or_padded l n 1 in
+    let c = get_or_padded l n 2 in
+    let d = get_or_padded l n 3 in
     omega arith
 
 -- fewer bytes than the head says begin a step

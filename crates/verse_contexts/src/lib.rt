@@ -1,4 +1,4 @@
-// The contexts of the Verse calculus: down an inner place, and what is written around it.
+// The contexts of the Verse calculus: down an inner place to the hole of a context.
 #![tactic(auto)]
 
 pub mod down;
