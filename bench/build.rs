@@ -1,7 +1,7 @@
-// Links the proved code: `rt lib` in crates/ffi writes it to crates/ffi/out.
+// Links the proved code: `tools/staticlib` writes it to target/staticlib.
 fn main() {
     let here = std::env::var("CARGO_MANIFEST_DIR").unwrap();
-    println!("cargo:rustc-link-search=native={here}/../crates/ffi/out");
+    println!("cargo:rustc-link-search=native={here}/../target/staticlib");
     println!("cargo:rustc-link-lib=static=ffi");
-    println!("cargo:rerun-if-changed={here}/../crates/ffi/out/libffi.a");
+    println!("cargo:rerun-if-changed={here}/../target/staticlib/libffi.a");
 }
