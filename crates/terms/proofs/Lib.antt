@@ -19,3 +19,4 @@ pub mod Deciding
 pub mod Endings
 pub mod Stability
 pub mod Uniform
+pub mod Standings

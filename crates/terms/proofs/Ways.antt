@@ -1,8 +1,12 @@
 -- Down a place and one entry further: what is there, and the cells before it. Assumes nothing.
 use Rattle.std.proofs.Common.{◌≡◌, ℕ, zero, suc, ◌+◌, ◌-◌, ◌<◌, ◌≤◌, ◌⊎◌, List, [], ◌∷◌, ◌++◌, length, get_or, take, drop, Some, None, Option, sym, refl, ap, ◌∙◌, subst, inl, inr, append_assoc, append-nil, add-one, arith, length-append}
 use Rattle.std.proofs.lemmas.List.{drop_at, take_more, take_all}
+use Rattle.std.proofs.Common.{Result, Ok, Err}
+use Rattle.std.specs.Result.{MatchResult}
+use Rattle.terms.specs.declared.place.Astray.{Astray}
+use Rattle.terms.specs.declared.place.Astray.TheVariants.{Entry}
 use Rattle.terms.specs.Cells.{children}
-use Rattle.terms.specs.Descents.{ChildAt}
+use Rattle.terms.specs.Descents.{ChildAt, Reached, Descended}
 use Rattle.terms.specs.Rows.{Row, flat, size, width, ◌&◌, pick, Place, before, after}
 use Rattle.terms.specs.Rows.Row.{none, node}
 use Rattle.terms.specs.Standing.{Stands, Ends}
@@ -192,3 +196,8 @@ ends_tree cells e t (u, s, k) is =
     let p = tree_stands cells t is in
     let o = (same u t s.rest [] s.counted is.counted (s.wide ∙ sym is.one) (s.reads ∙ sym p.reads)).0 in
     omega (arith, k, ap size o, flat_size t, ap length is.reads)
+
+-- what is answered of cells that are a term is answered of any
+pub descended : (cells place : List ℕ) (r : Result ℕ ℕ) (q : Result ℕ Astray) → MatchResult r (λ x. q ≡ Ok x) (λ e. q ≡ Err (Entry e)) → Reached cells place r → Descended cells place q
+descended cells place (Ok x) q m h = subst (Descended cells place) (sym m) h
+descended cells place (Err e) q m h = subst (Descended cells place) (sym m) h

@@ -1,5 +1,6 @@
 -- A cell taken apart into its fields, and put together again.
-use Rattle.std.specs.Prelude.{◌≡◌, ℕ, ◌+◌, ◌*◌, ◌^◌, ◌≤◌, cond, ◌⊎◌, Some, None, Option}
+use Rattle.std.specs.Prelude.{◌≡◌, ℕ, ◌+◌, ◌*◌, ◌^◌, ◌≤◌, cond, ◌⊎◌, Ok, Err, Result}
+use Rattle.terms.specs.declared.cell.Oversized.{Oversized}
 use Rattle.terms.specs.declared.cell.Cell.{Cell}
 use Rattle.terms.specs.Cells.{kind, binder, children, zeros, payload}
 
@@ -17,6 +18,6 @@ pub record Taken (c : ℕ) (f : Cell) : Type 0 where
   pub whole : c ≡ packed f
 
 -- the cell has just these fields; there is none exactly where the kind passes 6 bits or the children 9
-abbrev pub Packed : Cell → Option ℕ → Type 0
-Packed f (Some c) = Taken c f
-Packed f None = (64 ≤ f.kind) ⊎ (512 ≤ f.children)
+abbrev pub Packed : Cell → Result ℕ Oversized → Type 0
+Packed f (Ok c) = Taken c f
+Packed f (Err e) = (64 ≤ f.kind) ⊎ (512 ≤ f.children)

@@ -11,3 +11,4 @@ pub mod Descents
 pub mod Facts
 pub mod Judging
 pub mod Reading
+pub mod Forest

@@ -1,6 +1,6 @@
 // The fields of a cell of 64 bits, most significant first: kind 6, binder 1, children 9, zero bits 16, payload 32.
 ghost use Rattle.std.specs.Prelude.{◌≡◌, ℕ, ◌+◌, ◌*◌, ◌/◌, ◌%◌, ◌^◌, ◌<◌, ◌≤◌};
-ghost use Rattle.terms.specs.Cells.{kind, binder, children, zeros, payload};
+ghost use Rattle.terms.specs.Cells.{kind, binder, children, zeros, payload, form};
 ghost use Rattle.terms.specs.Fields.{Taken, Packed};
 
 pub fn kind(c: u64) -> u8
@@ -34,6 +34,13 @@ pub fn payload(c: u64) -> u32
     (c % 0x1_0000_0000) as u32
 }
 
+// Has the cell that kind, binder and number of children, and zero bits 0?
+pub fn has_form(c: u64, k: u8, b: u64, n: usize) -> bool
+    ensures { result ≡ form k b n c }
+{
+    kind(c) == k && binder(c) == b && children(c) == n && zeros(c) == 0
+}
+
 // A cell taken apart.
 #[derive(Clone, Copy, PartialEq, Eq, Debug)]
 pub struct Cell {
@@ -44,11 +51,15 @@ pub struct Cell {
     pub payload: u32,
 }
 
-impl Cell {
+// Fields that are those of no cell: the kind or the children do not fit their bits.
+#[derive(Clone, Copy, PartialEq, Eq, Debug)]
+pub struct Oversized;
+
+impl From<u64> for Cell {
+    ghost from_gives = { Taken };
+
     // The five fields of a cell. They determine it.
-    pub fn read(c: u64) -> Cell
-        ensures { Taken c result }
-    {
+    fn from(c: u64) -> Cell {
         Cell {
             kind: kind(c),
             binder: binder(c) == 1,
@@ -57,15 +68,19 @@ impl Cell {
             payload: payload(c),
         }
     }
+}
 
-    // The cell with these fields; none where the kind or the children do not fit their bits.
-    pub fn pack(self) -> Option<u64>
-        ensures { Packed self result }
-    {
-        if self.kind >= 64 || self.children >= 512 {
-            return None;
+impl TryFrom<Cell> for u64 {
+    type Error = Oversized;
+
+    ghost try_from_gives = { Packed };
+
+    // The cell with these fields.
+    fn try_from(fields: Cell) -> Result<u64, Oversized> {
+        if fields.kind >= 64 || fields.children >= 512 {
+            return Err(Oversized);
         }
-        let high = (self.kind as u64 * 2 + self.binder as u64) * 0x200 + self.children as u64;
-        Some((high * 0x1_0000 + self.zeros as u64) * 0x1_0000_0000 + self.payload as u64)
+        let high = (fields.kind as u64 * 2 + fields.binder as u64) * 0x200 + fields.children as u64;
+        Ok((high * 0x1_0000 + fields.zeros as u64) * 0x1_0000_0000 + fields.payload as u64)
     }
 }

@@ -9,6 +9,7 @@ pub fn skip(cells: &[u64], at: usize, n: usize) -> Option<usize>
 {
     let mut due = n;
     let mut end = at;
+    // No `for`: the walk ends where no tree is due, mostly before the cells do, and a walk over the rest would test that twice.
     while due > 0 {
         if due > cells.len().saturating_sub(end) {
             return None;

@@ -5,6 +5,7 @@ ghost use Rattle.terms.specs.Facts.{TermFacts};
 
 pub mod cell;
 pub mod extent;
+pub mod forest;
 pub mod place;
 pub mod small;
 

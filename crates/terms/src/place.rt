@@ -18,10 +18,8 @@ pub enum Astray {
 pub fn child(cells: &[u64], at: usize, n: usize) -> Option<usize>
     ensures { ChildAt cells.now at n result }
 {
-    if at >= cells.len() {
-        return None;
-    }
-    if n >= children(cells[at]) {
+    let c = cells.get(at)?;
+    if n >= children(*c) {
         return None;
     }
     skip(cells, at + 1, n)
@@ -34,10 +32,7 @@ pub fn down(cells: &[u64], place: &[u8]) -> Result<usize, usize>
 {
     let mut at = 0;
     for (k, entry) in place.iter().enumerate() {
-        match child(cells, at, *entry as usize) {
-            Some(next) => at = next,
-            None => return Err(k),
-        }
+        at = child(cells, at, *entry as usize).ok_or(k)?;
     }
     Ok(at)
 }
@@ -46,14 +41,8 @@ pub fn down(cells: &[u64], place: &[u8]) -> Result<usize, usize>
 pub fn descend(cells: &[u64], place: &[u8]) -> Result<usize, Astray>
     ensures { Descended cells.now place.now result }
 {
-    let Some(end) = skip(cells, 0, 1) else {
-        return Err(Astray::NoTerm);
-    };
-    if end != cells.len() {
-        return Err(Astray::NoTerm);
-    }
-    match down(cells, place) {
-        Ok(at) => Ok(at),
-        Err(entry) => Err(Astray::Entry(entry)),
+    match skip(cells, 0, 1) {
+        Some(end) if end == cells.len() => down(cells, place).map_err(Astray::Entry),
+        _ => Err(Astray::NoTerm),
     }
 }
