@@ -1,66 +1,41 @@
--- A row renamed into a space: its first cell, the children, the other trees. Assumes nothing.
-use Rattle.std.proofs.Common.{◌≡◌, ℕ, ◌+◌, ◌-◌, ◌<◌, ◌≤◌, Bool, true, false, cond, eqb, List, ◌∷◌, ◌++◌, length, get_or, set, sym, refl, ap, ◌∙◌, subst, inl, inr, arith}
-use Rattle.std.proofs.lemmas.Bool.Decides.{nat_tests}
-use Rattle.terms.specs.Cells.{binder, children, renumber}
-use Rattle.terms.specs.Lists.{over}
-use Rattle.terms.specs.Rows.{Row, flat, size, above, rename}
-use Rattle.terms.specs.Standing.{Stands}
-use Rattle.terms.proofs.Trees.{flat_size}
+-- A row renamed: its first cell, the children, the other trees. Assumes nothing.
+use Rattle.std.proofs.Common.{◌≡◌, ℕ, suc, ◌+◌, ◌-◌, ◌≤◌, List, ◌∷◌, ◌++◌, length, take, drop, set, ap, arith}
+use Rattle.terms.specs.Cells.{renumber}
+use Rattle.terms.specs.Forest.{Are}
+use Rattle.terms.specs.Rows.{Row, flat, size, rename}
 use Rattle.terms.proofs.Bridge.{rename_size}
-use Rattle.terms.proofs.Steps.{Opened, opened, moved, under_is, over-++}
-use Rattle.moves.specs.Renamings.{first_above, Fitting}
+use Rattle.terms.proofs.Standings.{standing}
+use Rattle.moves.specs.declared.scope.Scope.{Scope}
+use Rattle.moves.specs.Moved.{Written}
+use Rattle.moves.specs.Scopes.{Fits, Inner, Rest}
+use Rattle.moves.proofs.Overs.{Fronts, fronts_cell, fronts_next, fronts_row}
+use Rattle.moves.proofs.Scopes.{Cut, cut}
 
--- the binders above the first tree of a row
-pub first_is : {t : Row} {n at : ℕ} {cells : List ℕ} (o : Opened t n at cells) (d b e : ℕ) → (n ≡ 0 → ⊥) → e ≡ first_above n d b → e ≡ above d b o.r
-first_is {n = n} o d b e h w = w ∙ go (eqb n 1) refl
-  where
-    go : (q : Bool) → eqb n 1 ≡ q → cond q (d + b) d ≡ above d b o.r
-    go true k =
-        let i : n ≡ 1 = grind (arith, nat_tests) in
-        under_is o d b (d + b) h (inl (i, refl))
-    go false k = under_is o d b d h (inr (λ i. grind (arith, nat_tests), refl))
+pub renamed_row : {s i q : Scope} {c next : ℕ} {t : Row} (f : ℕ → ℕ) (x : ℕ) (p : Inner s c i) (k : Cut s c i t) → Rest s next q → x ≡ renumber f i.d c → (x ∷ flat (rename f i.d i.b k.ks)) ++ flat (rename f q.d q.b k.r) ≡ flat (rename f s.d s.b t)
+renamed_row {s} f x p k e ex =
+    let is = ap (λ v. flat (rename f s.d s.b v)) k.is in
+    let above = k.above in
+    let last = p.last in
+    let outer = e.above in
+    let tail = e.last in
+    cc (is, ex, above, last, outer, tail)
 
-pub first_most : (n d b e : ℕ) → e ≡ first_above n d b → e ≤ d + b
-first_most n d b e w = subst (λ k. k ≤ d + b) (sym w) (go (eqb n 1))
-  where
-    go : (q : Bool) → cond q (d + b) d ≤ d + b
-    go true = omega arith
-    go false = omega arith
+-- a scope's trees, of which there is one at least
+abbrev pub row : Scope → Row
+row s = (standing s.trees.standing).0
 
--- what a row of some trees that fits a space gives at its first cell
-pub record Begun (n at most : ℕ) (cells : List ℕ) : Type 0 where
-  pub ks : Row
-  pub within : at < length cells
-  pub some : 0 < most
-  pub here : Stands ks (children (get_or cells at 0)) cells (at + 1)
-  pub inner : at + 1 + size ks ≤ length cells
-  pub short : size ks + 1 ≤ most
-  pub first : Fitting (children (get_or cells at 0)) cells (at + 1) (most - 1)
-  pub others : Fitting (n - 1) cells (at + 1 + size ks) (most - 1 - size ks)
+pub whole : {s i : Scope} {c : ℕ} → Inner s c i → Cut s c i (row s)
+whole {s} p = cut p (standing s.trees.standing).1
 
-pub begun : {n at most : ℕ} {cells : List ℕ} → Fitting n cells at most → (n ≡ 0 → ⊥) → Begun n at most cells
-begun {n} {at} {most} {cells} p h =
-    let o = opened p.row p.stands h in
-    record {
-      ks = o.ks;
-      within = omega arith;
-      some = omega arith;
-      here = o.first;
-      inner = omega arith;
-      short = omega arith;
-      first = record { row = o.ks; stands = o.first; small = omega arith };
-      others = record { row = o.r; stands = o.others; small = omega arith };
-    }
+-- renamed into a list that has room for them
+module _ {s i : Scope} {c : ℕ} (p : Inner s c i) (out : List ℕ) (room : Fits s.trees (length out)) where
+  pub enough : suc (size (whole p).ks + size (whole p).r) ≤ length out
+  enough = omega (arith, room (row s) (standing s.trees.standing).1, (whole p).sized)
 
-pub moved_fit : {n at m j most more : ℕ} {cells : List ℕ} → Fitting n cells at most → m ≡ n → j ≡ at → most ≤ more → Fitting m cells j more
-moved_fit s e f l = record { row = s.row; stands = moved s.stands e f; small = omega arith }
+  -- the first cell and the children are written
+  module _ (f : ℕ → ℕ) (x : ℕ) {n : ℕ} {part : List ℕ} (w : (ks : Row) → Are i.trees ks → Written (rename f i.d i.b ks) (take (length (set out 0 x) - 1) (drop 1 (set out 0 x))) part n) where
+    pub kids : n ≡ size (whole p).ks
+    kids = omega (arith, (w (whole p).ks (whole p).inner).count, rename_size)
 
--- the first cell, then its children, then the other trees
-pub wrote_row : {t : Row} {n at : ℕ} {cells : List ℕ} (o : Opened t n at cells) (f : ℕ → ℕ) (d b under bd x to j : ℕ) (out out₁ out₂ : List ℕ) → under ≡ above d b o.r → x ≡ renumber f under (get_or cells at 0) → bd ≡ binder (get_or cells at 0) → out₁ ≡ over (set out to x) (to + 1) (flat (rename f under bd o.ks)) → out₂ ≡ over out₁ j (flat (rename f d b o.r)) → j ≡ to + 1 + size o.ks → out₂ ≡ over out to (flat (rename f d b t))
-wrote_row {t} {cells = cells} o f d b under bd x to j out out₁ out₂ eu ex eb e₁ e₂ ej =
-    let ys = flat (rename f under bd o.ks) in
-    let zs = flat (rename f d b o.r) in
-    let long : length ys ≡ size o.ks = flat_size (rename f under bd o.ks) ∙ rename_size f under bd o.ks in
-    let is = ap (λ v. flat (rename f d b v)) o.is in
-    let eq : x ∷ (ys ++ zs) ≡ flat (rename f d b t) = cc (is, eu, ex, eb) in
-    e₂ ∙ ap (λ l. over l j zs) e₁ ∙ sym (over-++ (set out to x) (to + 1) ys zs j (omega (arith, long))) ∙ ap (over out to) eq
+    pub begun : {u : Row} (k : Cut s c i u) → Fronts (x ∷ flat (rename f i.d i.b k.ks)) out (take 1 (set out 0 x) ++ (part ++ drop (length (set out 0 x) - 1) (drop 1 (set out 0 x)))) (1 + n)
+    begun k = fronts_next (fronts_cell out x (omega (arith, enough))) (fronts_row (w k.ks k.inner))

@@ -1,17 +1,32 @@
 -- Where a free variable occurs in a row: its first cell, the children, the other trees. Assumes nothing.
-use Rattle.std.proofs.Common.{◌≡◌, ℕ, zero, suc, ◌+◌, ◌-◌, ◌<◌, ◌≤◌, Bool, true, false, cond, ◌⊎◌, List, [], ◌∷◌, length, get_or, Some, None, sym, refl, ap, ◌∙◌, subst, inl, inr, ⊎_elim, arith, length-append}
+use Rattle.std.proofs.Common.{◌≡◌, ℕ, zero, suc, ◌+◌, ◌-◌, ◌<◌, ◌≤◌, Bool, true, false, cond, eqb, ◌⊎◌, [], ◌∷◌, length, get_or, Some, None, Ok, Err, Option, Result, sym, refl, ap, ◌∙◌, subst, inl, inr, ⊎_elim, arith, length-append}
+use Rattle.std.specs.Option.{option_eq}
+use Rattle.std.specs.Result.{result_err}
 use lib.ListN.{get_or-eq_default}
+use Rattle.std.proofs.lemmas.Bool.Decides.{nat_tests}
 use Rattle.std.proofs.lemmas.List.{get_or_append_left, get_or-append_right}
 use Rattle.terms.specs.Cells.{binder, payload, loose}
 use Rattle.terms.specs.Lists.{In}
 use Rattle.terms.specs.Rows.{Row, size, above, own, frees}
 use Rattle.terms.specs.Rows.Row.{none, node}
 use Rattle.terms.proofs.Moves.{in_row, in_own, in_kids, in_next}
-use Rattle.terms.proofs.Steps.{Opened}
-use Rattle.moves.specs.declared.occurs.Search.{Search}
-use Rattle.moves.specs.declared.occurs.Search.TheVariants.{Found, Past}
+use Rattle.moves.specs.declared.scope.Scope.{Scope}
 use Rattle.moves.specs.Renamings.{free}
-use Rattle.moves.specs.Occurrences.{numbers, Occurs, Searched}
+use Rattle.moves.specs.Occurrences.{numbers, Occurs, Searched, FirstFree}
+use Rattle.moves.specs.Scopes.{Inner, Rest}
+use Rattle.moves.proofs.Scopes.{Cut}
+
+-- what the test of a free number says
+pub is_number : (o : Option ℕ) (x : ℕ) {q : Bool} → q ≡ option_eq eqb o (Some x) → q ≡ true → o ≡ Some x
+is_number None x e h = absurd (grind (arith, nat_tests))
+is_number (Some y) x e h = let k : eqb y x ≡ true = sym e ∙ h in ap Some (grind (arith, nat_tests))
+
+pub no_number : (o : Option ℕ) (x : ℕ) {q : Bool} → q ≡ option_eq eqb o (Some x) → q ≡ false → o ≡ Some x → ⊥
+no_number None x e h i = let z : ◌≡◌ {A = ℕ} 0 1 = cc in absurd (omega arith)
+no_number (Some y) x e h i =
+    let k : eqb y x ≡ false = sym e ∙ h in
+    let j : y ≡ x = cc in
+    absurd (grind (arith, nat_tests))
 
 -- the number of a cell is its own
 number_own : (x d c : ℕ) → free d c ≡ Some x → In x (own d c)
@@ -111,29 +126,34 @@ module _ (x d b c : ℕ) (ks r : Row) where
       not_found h i =
           ⊎_elim (λ o. other (own_number x (above d b r) c o)) (λ q. ⊎_elim none_below h q) (in_row x d b c ks r i)
 
--- a row that stands at a cell, taken apart
-module _ {t : Row} {n at : ℕ} {cells : List ℕ} (o : Opened t n at cells) (x d b e bd : ℕ) (under : e ≡ above d b o.r) (eb : bd ≡ binder (get_or cells at 0)) where
-  pub searched_here : free e (get_or cells at 0) ≡ Some x → Searched x d b t at (Found at)
+-- the trees of a scope, taken apart
+module _ {s i : Scope} {c : ℕ} {t : Row} (p : Inner s c i) (k : Cut s c i t) (x : ℕ) where
+  other_cell : (free i.d c ≡ Some x → ⊥) → free (above s.d s.b k.r) c ≡ Some x → ⊥
+  other_cell h e = h (ap (λ m. free m c) k.above ∙ e)
+
+  pub searched_here : free i.d c ≡ Some x → Searched x s.d s.b t s.trees.at (Err s.trees.at)
   searched_here h =
-      (0, omega arith, subst (λ u. Occurs x d b u 0) (sym o.is) (found_here x d b (get_or cells at 0) o.ks o.r (ap (λ m. free m (get_or cells at 0)) (sym under) ∙ h)))
+      (0, omega arith, subst (λ u. Occurs x s.d s.b u 0) (sym k.is) (found_here x s.d s.b c k.ks k.r (ap (λ m. free m c) (sym k.above) ∙ h)))
 
-  module _ (h : free e (get_or cells at 0) ≡ Some x → ⊥) where
-    other_cell : free (above d b o.r) (get_or cells at 0) ≡ Some x → ⊥
-    other_cell k = h (ap (λ m. free m (get_or cells at 0)) under ∙ k)
+  module _ (h : free i.d c ≡ Some x → ⊥) where
+    pub searched_kids : (j : ℕ) → Searched x i.d i.b k.ks i.trees.at (Err j) → Searched x s.d s.b t s.trees.at (Err j)
+    searched_kids j (m, is, w) =
+        let w' = subst (λ e. Occurs x e (binder c) k.ks m) k.above (subst (λ e. Occurs x i.d e k.ks m) p.last w) in
+        (suc m, omega (arith, is, k.starts), subst (λ u. Occurs x s.d s.b u (suc m)) (sym k.is) (found_kids x s.d s.b c k.ks k.r (other_cell h) m w'))
 
-    pub searched_kids : (i : ℕ) → Searched x e bd o.ks (at + 1) (Found i) → Searched x d b t at (Found i)
-    searched_kids i (k, is, w) =
-        let w' = subst (λ m. Occurs x m (binder (get_or cells at 0)) o.ks k) under (subst (λ m. Occurs x e m o.ks k) eb w) in
-        (suc k, omega arith, subst (λ u. Occurs x d b u (suc k)) (sym o.is) (found_kids x d b (get_or cells at 0) o.ks o.r other_cell k w'))
-
-    pub searched_next : (next : ℕ) (s : Search) → Searched x e bd o.ks (at + 1) (Past next) → Searched x d b o.r next s → Searched x d b t at s
-    searched_next next s p g = go s g
+    pub searched_next : {q : Scope} {next : ℕ} (r : Result ℕ ℕ) → Rest s next q → Searched x i.d i.b k.ks i.trees.at (Ok next) → Searched x q.d q.b k.r q.trees.at r → Searched x s.d s.b t s.trees.at r
+    searched_next {q} {next} r e f g = go r (rw (← e.above, ← e.last, ← e.part.start) g)
       where
-        below : In x (frees (above d b o.r) (binder (get_or cells at 0)) o.ks) → ⊥
-        below k = p.1 (subst (λ m. In x (frees m bd o.ks)) (sym under) (subst (λ m. In x (frees (above d b o.r) m o.ks)) (sym eb) k))
+        below : In x (frees (above s.d s.b k.r) (binder c) k.ks) → ⊥
+        below m = f.1 (subst (λ e. In x (frees e i.b k.ks)) (sym k.above) (subst (λ e. In x (frees (above s.d s.b k.r) e k.ks)) (sym p.last) m))
 
-        go : (s : Search) → Searched x d b o.r next s → Searched x d b t at s
-        go (Found i) (k, is, w) =
-            (suc (size o.ks + k), omega (arith, p.0), subst (λ u. Occurs x d b u (suc (size o.ks + k))) (sym o.is) (found_next x d b (get_or cells at 0) o.ks o.r other_cell below k w))
-        go (Past m) w =
-            (omega (arith, p.0, w.0, o.sized), subst (λ u. In x (frees d b u) → ⊥) (sym o.is) (not_found x d b (get_or cells at 0) o.ks o.r other_cell below w.1))
+        go : (r : Result ℕ ℕ) → Searched x s.d s.b k.r next r → Searched x s.d s.b t s.trees.at r
+        go (Err j) (m, is, w) =
+            (suc (size k.ks + m), omega (arith, f.0, is, k.starts), subst (λ u. Occurs x s.d s.b u (suc (size k.ks + m))) (sym k.is) (found_next x s.d s.b c k.ks k.r (other_cell h) below m w))
+        go (Ok e) w =
+            (omega (arith, f.0, w.0, k.sized, k.starts), subst (λ u. In x (frees s.d s.b u) → ⊥) (sym k.is) (not_found x s.d s.b c k.ks k.r (other_cell h) below w.1))
+
+-- the first cell alone
+pub first_found : (x d b at : ℕ) (t : Row) (r : Result ℕ ℕ) {o : Option ℕ} → o ≡ result_err r → Searched x d b t at r → FirstFree x d b t at o
+first_found x d b at t (Ok e) h w = subst (FirstFree x d b t at) (sym h) w.1
+first_found x d b at t (Err i) h w = subst (FirstFree x d b t at) (sym h) w

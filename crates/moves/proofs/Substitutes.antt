@@ -1,24 +1,20 @@
 -- A row with trees put for its free variables: its first tree, then the others. Assumes nothing.
-use Rattle.std.proofs.Common.{◌≡◌, ℕ, zero, suc, ◌+◌, ◌-◌, ◌<◌, Bool, true, false, cond, List, ◌∷◌, ◌++◌, length, get_or, set, Some, None, Option, sym, refl, ap, ◌∙◌, subst, append-nil, add-zero, arith}
+use Rattle.std.proofs.Common.{◌≡◌, ℕ, zero, suc, ◌+◌, ◌-◌, ◌<◌, Bool, true, false, cond, List, ◌∷◌, ◌++◌, length, take, drop, set, Some, None, Option, sym, refl, ap, ◌∙◌, subst, append-nil, add-zero, arith}
 use Rattle.terms.specs.Cells.{binder, payload, loose}
-use Rattle.terms.specs.Lists.{over}
 use Rattle.terms.specs.Rows.{Row, flat, size, above, raise, substitute, ◌&◌}
 use Rattle.terms.specs.Rows.Row.{none, node}
-use Rattle.terms.specs.Standing.{Stands}
-use Rattle.terms.proofs.Inject.{empty}
-use Rattle.terms.proofs.Trees.{flat_size, flat-&, &-none, same}
+use Rattle.terms.proofs.Trees.{flat-&, &-none}
 use Rattle.terms.proofs.Bridge.{size-&, rename_size}
-use Rattle.terms.proofs.Steps.{Opened, opened, over-++, first_tree}
 use Rattle.moves.specs.declared.images.Substitution.{Substitution}
 use Rattle.moves.specs.declared.images.Image.{Image}
+use Rattle.moves.specs.declared.scope.Scope.{Scope}
 use Rattle.moves.specs.Images.{image_of, extent, Shown, Shows, Sizes}
+use Rattle.moves.specs.Moved.{Written}
 use Rattle.moves.specs.Renamings.{free}
+use Rattle.moves.specs.Scopes.{Rest}
 use Rattle.moves.specs.Substitutions.{Spent, Substituted}
-
--- trees of one number at one cell are the same
-pub stands_same : {s t : Row} {n at : ℕ} {cells : List ℕ} → Stands s n cells at → Stands t n cells at → s ≡ t
-stands_same {s} {t} p q =
-    (same s t p.rest q.rest p.counted q.counted (p.wide ∙ sym q.wide) (p.reads ∙ sym q.reads)).0
+use Rattle.moves.proofs.Overs.{fronts_cell, fronts_next, fronts_row, row_fronts}
+use Rattle.moves.proofs.Scopes.{Cut}
 
 module _ (s : ℕ → Row) where
   -- what becomes of a first tree under e binders
@@ -46,99 +42,67 @@ module _ (s : ℕ → Row) where
       go false e = refl
 
 -- a row is its first tree and the others
-module _ {t : Row} {n at : ℕ} {cells : List ℕ} (st : Stands t n cells at) (o : Opened t n at cells) (s : ℕ → Row) (d b e : ℕ) (a : e ≡ above d b o.r) where
-  pub sub_is : substitute s d b t ≡ substitute s e 0 (first_tree st o) & substitute s d b o.r
+module _ {S i : Scope} {c : ℕ} {t : Row} (k : Cut S c i t) (s : ℕ → Row) where
+  sub_is : substitute s S.d S.b t ≡ substitute s i.d 0 (node c k.ks none) & substitute s S.d S.b k.r
   sub_is =
-      ap (substitute s d b) o.is ∙ sub_first s d b (get_or cells at 0) o.ks o.r ∙ ap (λ k. substitute s k 0 (first_tree st o) & substitute s d b o.r) (sym a)
+      ap (substitute s S.d S.b) k.is ∙ sub_first s S.d S.b c k.ks k.r ∙ ap (λ e. substitute s e 0 (node c k.ks none) & substitute s S.d S.b k.r) (sym k.above)
 
-  pub sub_size : size (substitute s d b t) ≡ size (substitute s e 0 (first_tree st o)) + size (substitute s d b o.r)
-  sub_size = ap size sub_is ∙ size-& (substitute s e 0 (first_tree st o)) (substitute s d b o.r)
+  pub sub_size : size (substitute s S.d S.b t) ≡ size (substitute s i.d 0 (node c k.ks none)) + size (substitute s S.d S.b k.r)
+  sub_size = ap size sub_is ∙ size-& (substitute s i.d 0 (node c k.ks none)) (substitute s S.d S.b k.r)
+
+  -- the others keep their binders
+  rest_is : {q : Scope} {next : ℕ} → Rest S next q → substitute s q.d q.b k.r ≡ substitute s S.d S.b k.r
+  rest_is {q} e = ap (λ d. substitute s d q.b k.r) e.above ∙ ap (λ b. substitute s S.d b k.r) e.last
+
+  pub rest_size : {q : Scope} {next : ℕ} → Rest S next q → size (substitute s q.d q.b k.r) ≡ size (substitute s S.d S.b k.r)
+  rest_size e = ap size (rest_is e)
 
   -- the room that the first tree leaves is for the others
-  pub spent_row : (room next left : ℕ) (r : Option (ℕ × ℕ)) → Spent (at + size (first_tree st o)) (size (substitute s e 0 (first_tree st o))) room (Some (next, left)) → Spent (next + size o.r) (size (substitute s d b o.r)) left r → Spent (at + size t) (size (substitute s d b t)) room r
-  spent_row room next left (Some v) f g =
+  pub spent_row : {q : Scope} {next room : ℕ} (left : ℕ) (r : Option (ℕ × ℕ)) → Rest S next q → Spent (i.trees.at + size k.ks) (size (substitute s i.d 0 (node c k.ks none))) room (Some (next, left)) → Spent (q.trees.at + size k.r) (size (substitute s q.d q.b k.r)) left r → Spent (S.trees.at + size t) (size (substitute s S.d S.b t)) room r
+  spent_row left (Some v) e f g =
       let x = f.0 in
       let y = f.1 in
-      (omega (arith, g.0, o.sized), omega (arith, g.1, sub_size))
-  spent_row room next left None f g = let y = f.1 in omega (arith, g, sub_size)
+      let z = e.part.start in
+      (omega (arith, g.0, k.sized, k.starts), omega (arith, g.1, sub_size, rest_size e))
+  spent_row left None e f g = let y = f.1 in omega (arith, g, sub_size, rest_size e)
 
-  pub spent_none : (room : ℕ) → Spent (at + size (first_tree st o)) (size (substitute s e 0 (first_tree st o))) room None → Spent (at + size t) (size (substitute s d b t)) room None
-  spent_none room f = omega (arith, f, sub_size)
+  pub spent_none : {room : ℕ} → Spent (i.trees.at + size k.ks) (size (substitute s i.d 0 (node c k.ks none))) room None → Spent (S.trees.at + size t) (size (substitute s S.d S.b t)) room None
+  spent_none f = omega (arith, f, sub_size)
 
   -- what is written, first the one, then the others
-  pub joined : (to p q : ℕ) (old mid new : List ℕ) (r : ℕ × ℕ) → Substituted (first_tree st o) (substitute s e 0 (first_tree st o)) at to old mid (p, q) → Substituted o.r (substitute s d b o.r) p q mid new r → Substituted t (substitute s d b t) at to old new r
-  joined to p q old mid new r f g =
-      let ys = flat (substitute s e 0 (first_tree st o)) in
-      let zs = flat (substitute s d b o.r) in
-      let long = flat_size (substitute s e 0 (first_tree st o)) in
-      let fl : flat (substitute s d b t) ≡ ys ++ zs = ap flat sub_is ∙ flat-& (substitute s e 0 (first_tree st o)) (substitute s d b o.r) in
+  pub joined : {q : Scope} {next end n m : ℕ} {old mid part : List ℕ} → Rest S next q → Substituted (i.trees.at + size k.ks) (substitute s i.d 0 (node c k.ks none)) old mid (next, n) → Substituted (q.trees.at + size k.r) (substitute s q.d q.b k.r) (take (length mid - n) (drop n mid)) part (end, m) → Substituted (S.trees.at + size t) (substitute s S.d S.b t) old (take n mid ++ (part ++ drop (length mid - n) (drop n mid))) (end, n + m)
+  joined {q} e f g =
+      let z = e.part.start in
+      let fl = ap (λ u. flat (substitute s i.d 0 (node c k.ks none)) ++ flat u) (rest_is e) ∙ sym (flat-& (substitute s i.d 0 (node c k.ks none)) (substitute s S.d S.b k.r)) ∙ ap flat (sym sub_is) in
       record {
-        ends = omega (arith, f.ends, g.ends, o.sized);
-        upto = omega (arith, f.upto, g.upto, sub_size);
-        wrote = g.wrote ∙ ap (λ l. over l q zs) f.wrote ∙ sym (over-++ old to ys zs q (omega (arith, f.upto, long))) ∙ ap (over old to) (sym fl);
+        ends = omega (arith, f.ends, g.ends, k.sized, k.starts);
+        wrote = row_fronts fl (fronts_next (fronts_row f.wrote) (fronts_row g.wrote));
       }
 
-pub alone : {t : Row} {at : ℕ} {cells : List ℕ} → Stands t 1 cells at → Opened t 1 at cells
-alone {t} st = opened t st (λ e. omega arith)
+-- one tree, whose cell is a free variable
+module _ (s : ℕ → Row) (d c n : ℕ) (ks : Row) (h : Some n ≡ free d c) where
+  pub hit_size : size (substitute s d 0 (node c ks none)) ≡ size (s n)
+  hit_size = ap size (sub_hit s d c n ks h) ∙ rename_size (λ x. x + d) 0 0 (s n)
 
--- one tree
-module _ {t : Row} {at : ℕ} {cells : List ℕ} (st : Stands t 1 cells at) where
-  pub tree_here : at < length cells
-  tree_here = omega (arith, (alone st).within, (alone st).sized)
+  pub tree_hit : {end p m : ℕ} {old new : List ℕ} → p ≡ end → Written (raise d (s n)) old new m → Substituted end (substitute s d 0 (node c ks none)) old new (p, m)
+  tree_hit e w = record { ends = e; wrote = row_fronts (ap flat (sym (sub_hit s d c n ks h))) (fronts_row w) }
 
-  tree_is : t ≡ node (get_or cells at 0) (alone st).ks none
-  tree_is =
-      (alone st).is ∙ ap (node (get_or cells at 0) (alone st).ks) (empty (alone st).r (omega (arith, (alone st).others.wide)))
+-- or none
+module _ (s : ℕ → Row) (d b c : ℕ) (ks : Row) (h : None ≡ free d c) (eb : b ≡ binder c) where
+  miss_is : substitute s d 0 (node c ks none) ≡ node c (substitute s d b ks) none
+  miss_is = sub_miss s d c ks h ∙ ap (λ k. node c (substitute s d k ks) none) (sym eb)
 
-  pub tree_size : size t ≡ suc (size (alone st).ks)
-  tree_size = omega (arith, ap size tree_is)
+  pub miss_size : size (substitute s d 0 (node c ks none)) ≡ suc (size (substitute s d b ks))
+  miss_size = omega (arith, ap size miss_is)
 
-  -- whose cell is a free variable
-  module _ (s : ℕ → Row) (d n : ℕ) (h : Some n ≡ free d (get_or cells at 0)) where
-    pub hit_is : substitute s d 0 t ≡ raise d (s n)
-    hit_is = ap (substitute s d 0) tree_is ∙ sub_hit s d (get_or cells at 0) n (alone st).ks h
+  pub spent_miss : {room : ℕ} (end left : ℕ) (r : Option (ℕ × ℕ)) → 1 + left ≡ room → Spent end (size (substitute s d b ks)) left r → Spent end (size (substitute s d 0 (node c ks none))) room r
+  spent_miss end left (Some v) l f = (f.0, omega (arith, f.1, miss_size))
+  spent_miss end left None l f = omega (arith, f, miss_size)
 
-    pub hit_size : size (substitute s d 0 t) ≡ size (s n)
-    hit_size = ap size hit_is ∙ rename_size (λ x. x + d) 0 0 (s n)
-
-    pub tree_hit : (to p q : ℕ) (old new : List ℕ) → p ≡ at + 1 + size (alone st).ks → q ≡ to + size (s n) → new ≡ over old to (flat (raise d (s n))) → Substituted t (substitute s d 0 t) at to old new (p, q)
-    tree_hit to p q old new ep eq w =
-        record {
-          ends = omega (arith, tree_size);
-          upto = omega (arith, hit_size);
-          wrote = w ∙ ap (λ u. over old to (flat u)) (sym hit_is);
-        }
-
-  -- whose cell is none
-  module _ (s : ℕ → Row) (d bd : ℕ) (h : None ≡ free d (get_or cells at 0)) (eb : bd ≡ binder (get_or cells at 0)) where
-    pub miss_is : substitute s d 0 t ≡ node (get_or cells at 0) (substitute s d bd (alone st).ks) none
-    miss_is =
-        ap (substitute s d 0) tree_is ∙ sub_miss s d (get_or cells at 0) (alone st).ks h ∙ ap (λ k. node (get_or cells at 0) (substitute s d k (alone st).ks) none) (sym eb)
-
-    pub miss_size : size (substitute s d 0 t) ≡ suc (size (substitute s d bd (alone st).ks))
-    miss_size = omega (arith, ap size miss_is)
-
-    pub spent_miss : (room : ℕ) (r : Option (ℕ × ℕ)) → 0 < room → Spent (at + 1 + size (alone st).ks) (size (substitute s d bd (alone st).ks)) (room - 1) r → Spent (at + size t) (size (substitute s d 0 t)) room r
-    spent_miss room (Some v) l f = (omega (arith, f.0, tree_size), omega (arith, f.1, miss_size))
-    spent_miss room None l f = omega (arith, f, miss_size)
-
-    pub tree_miss : (to : ℕ) (old new : List ℕ) (r : ℕ × ℕ) → Substituted (alone st).ks (substitute s d bd (alone st).ks) (at + 1) (to + 1) (set old to (get_or cells at 0)) new r → Substituted t (substitute s d 0 t) at to old new r
-    tree_miss to old new r f =
-        record {
-          ends = omega (arith, f.ends, tree_size);
-          upto = omega (arith, f.upto, miss_size);
-          wrote = f.wrote ∙ ap (λ u. over old to (get_or cells at 0 ∷ u)) (sym (append-nil (flat (substitute s d bd (alone st).ks)))) ∙ ap (λ u. over old to (flat u)) (sym miss_is);
-        }
-
--- no trees
-pub nothing : (t : Row) (s : ℕ → Row) (n at to d b : ℕ) (out cells : List ℕ) → Stands t n cells at → n ≡ 0 → Substituted t (substitute s d b t) at to out out (at, to)
-nothing t s n at to d b out cells st e =
-    let z = empty t (st.wide ∙ e) in
-    record {
-      ends = omega (arith, ap size z);
-      upto = omega (arith, ap (λ u. size (substitute s d b u)) z);
-      wrote = ap (λ u. over out to (flat (substitute s d b u))) (sym z);
-    }
+  pub tree_miss : {end p m : ℕ} {old part : List ℕ} → 0 < length old → Substituted end (substitute s d b ks) (take (length (set old 0 c) - 1) (drop 1 (set old 0 c))) part (p, m) → Substituted end (substitute s d 0 (node c ks none)) old (take 1 (set old 0 c) ++ (part ++ drop (length (set old 0 c) - 1) (drop 1 (set old 0 c)))) (p, 1 + m)
+  tree_miss {old = old} l f =
+      let e = ap (λ u. c ∷ u) (sym (append-nil (flat (substitute s d b ks)))) ∙ ap flat (sym miss_is) in
+      record { ends = f.ends; wrote = row_fronts e (fronts_next (fronts_cell old c l) (fronts_row f.wrote)) }
 
 -- trees of any sizes
 blank : ℕ → Row
@@ -158,5 +122,5 @@ unfolding blanks
 blanks_sizes how n = sym (blank_size (extent (image_of how n)))
 
 -- the tree that stands for a number, by what was found for it
-pub shown_by : (values : List ℕ) (how : Substitution) (s : ℕ → Row) (n : ℕ) (i : Image) → i ≡ image_of how n → Shows values how s → Shown values i (s n)
-shown_by values how s n i e h = subst (λ j. Shown values j (s n)) (sym e) (h n)
+pub shown_by : (how : Substitution) (s : ℕ → Row) (n : ℕ) (i : Image) → i ≡ image_of how n → Shows how s → Shown i (s n)
+shown_by how s n i e h = subst (λ j. Shown j (s n)) (sym e) (h n)

@@ -1,6 +1,7 @@
 pub mod Renamings
+pub mod Scopes
 pub mod Images
-pub mod Substitutions
 pub mod Moved
+pub mod Substitutions
 pub mod Occurrences
 pub mod Laws

@@ -1,16 +1,18 @@
 -- A term moved into a space: what is written there, or why it is not.
-use Rattle.std.specs.Prelude.{◌≡◌, ℕ, ◌<◌, ◌≤◌, Bool, true, false, List, ◌++◌, length, drop, Ok, Err, Result}
+use Rattle.std.specs.Prelude.{◌≡◌, ℕ, ◌<◌, ◌≤◌, List, ◌++◌, length, drop, Some, None, Ok, Err, Option, Result}
+use Rattle.terms.specs.Forest.{Are}
 use Rattle.terms.specs.Rows.{Row, flat, size, substitute}
 use Rattle.terms.specs.Terms.{TreeOf}
+use Rattle.terms.specs.declared.forest.Trees.{Trees}
 use Rattle.moves.specs.declared.Unmoved.{Unmoved}
 use Rattle.moves.specs.declared.Unmoved.TheVariants.{NoTerm, NoValue, NoRoom}
 use Rattle.moves.specs.declared.images.Substitution.{Substitution}
 use Rattle.moves.specs.Images.{puts}
 
--- are the cells one term?
-abbrev pub OneTerm : List ℕ → Bool → Type 0
-OneTerm cells true = (t : Row) × TreeOf cells t
-OneTerm cells false = (t : Row) → TreeOf cells t → ⊥
+-- the cells as one tree, if they are one term
+abbrev pub OneTerm : List ℕ → Option Trees → Type 0
+OneTerm cells (Some trees) = (t : Row) × TreeOf cells t × Are trees t
+OneTerm cells None = (t : Row) → TreeOf cells t → ⊥
 
 -- the n cells of t stand at the front of the space, the others as they were
 pub record Written (t : Row) (space space' : List ℕ) (n : ℕ) : Type 0 where

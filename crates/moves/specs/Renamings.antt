@@ -1,10 +1,9 @@
 -- What becomes of the free numbers of a term.
-use Rattle.std.specs.Prelude.{ℕ, ◌+◌, ◌-◌, ◌≤◌, cond, List, Some, None, Option, ◌==◌}
+use Rattle.std.specs.Prelude.{ℕ, ◌+◌, ◌-◌, cond, Some, None, Option, ◌==◌}
 use Rattle.moves.specs.declared.renaming.Renaming.{Renaming}
 use Rattle.moves.specs.declared.renaming.Renaming.TheVariants.{Raise, Lower, Exchange, Beyond}
 use Rattle.terms.specs.Cells.{payload, loose}
-use Rattle.terms.specs.Rows.{Row, size, exchanged, beyond}
-use Rattle.terms.specs.Standing.{Stands}
+use Rattle.terms.specs.Rows.{exchanged, beyond}
 
 -- what a free number becomes
 abbrev pub renamed : Renaming → ℕ → ℕ
@@ -27,9 +26,3 @@ free d c = cond (loose d c) (Some (payload c - d)) None
 -- So many binders lie above the first of n trees under d binders, the last one under b more.
 abbrev pub first_above : ℕ → ℕ → ℕ → ℕ
 first_above n d b = cond (n == 1) (d + b) d
-
--- n trees stand at a cell, and have at most so many cells
-pub record Fitting (n : ℕ) (cells : List ℕ) (at most : ℕ) : Type 0 where
-  pub row : Row
-  pub stands : Stands row n cells at
-  pub small : size row ≤ most

@@ -1,120 +1,96 @@
 // What stands for the free variables of a term.
 ghost use Rattle.std.specs.Prelude.{◌≡◌, ◌+◌, ◌-◌, ◌^◌, ◌<◌, ◌≤◌, length};
-ghost use Rattle.terms.specs.Lists.{over};
-ghost use Rattle.terms.specs.Rows.{Row, flat, size, raise};
+ghost use Rattle.terms.specs.Rows.{Row, size, raise};
 ghost use Rattle.moves.specs.declared.images.Substitution.TheVariants.{Replace, Instead, Bindings};
 ghost use Rattle.moves.specs.Images.{image_of, extent, Shown};
+ghost use Rattle.moves.specs.Moved.{Written};
 
-use crate::renaming::{Renaming, rename_row, renumber};
+use crate::renaming::{Renaming, rename, renumber};
+use terms::forest::Trees;
 
-// What stands for a free number: the cells of a tree among the values, or another number.
+// What stands for a free number: the cells of a tree, or another number.
 #[derive(Clone, Copy, PartialEq, Eq, Debug)]
-pub enum Image {
-    Tree { start: usize, end: usize },
+pub enum Image<'v> {
+    Tree(&'v [u64]),
     Number(u64),
 }
 
-impl Image {
+impl<'v> Image<'v> {
     // How many cells it has.
     pub fn size(self) -> usize
-        ensures { result ≡ extent self }
+        ensures { result ≡ extent self.entry }
     {
         match self {
-            Image::Tree { start, end } => end.saturating_sub(start),
+            Image::Tree(value) => value.len(),
             Image::Number(_) => 1,
         }
     }
 
-    // Writes it over the space from `to` on, raised by d. Answers where it ends.
-    pub fn write(self, values: &[u64], out: &mut [u64], to: usize, d: u64) -> usize
-        requires shown { (t : Row) × Shown values.now self t × to + size t ≤ length out.old }
+    // Writes it at the front of `out`, raised by d. Answers how many cells it has.
+    pub fn write(self, out: &mut [u64], d: u64) -> usize
+        requires shown { (t : Row) × Shown self t × size t ≤ length out.old }
         requires low { d < 2 ^ 63 }
-        ensures end { (t : Row) → Shown values.now self t → result ≡ to + size t }
-        ensures wrote { (t : Row) → Shown values.now self t → out.new ≡ over out.old to (flat (raise d t)) }
+        ensures { (t : Row) → Shown self.entry t → Written (raise d t) out.old out.new result }
     {
         match self {
-            Image::Tree { start, end } => {
-                let _end = rename_row(values, start, 1, out, to, Renaming::Raise(d), 0, 0);
-                to + (end - start)
+            Image::Tree(cells) => {
+                let tree = Trees { cells, at: 0, n: 1 };
+                rename(tree, Renaming::Raise(d), out)
             }
             Image::Number(n) => {
-                out[to] = renumber(n, Renaming::Raise(d), 0);
-                to + 1
+                out[0] = renumber(n, Renaming::Raise(d), 0);
+                1
             }
         }
     }
 }
 
-// The cells of a tree among the values.
-#[derive(Clone, Copy, PartialEq, Eq, Debug)]
-pub struct Span {
-    pub start: usize,
-    pub end: usize,
-}
-
 // Which trees and numbers stand for the free variables.
 #[derive(Clone, Copy, Debug)]
-pub enum Substitution<'a> {
+pub enum Substitution<'v> {
     // A tree for x, and every other number for itself.
-    Replace { x: u64, start: usize, end: usize },
+    Replace { x: u64, value: &'v [u64] },
     // A tree for 0, and for any other number the one below it.
-    Instead { start: usize, end: usize },
+    Instead { value: &'v [u64] },
     // The tree of that number among these for a number, and every number past them for itself.
-    Bindings { spans: &'a [Span] },
+    Bindings { values: &'v [&'v [u64]] },
 }
 
-impl<'a> Substitution<'a> {
-    // The tree from start to end for x.
-    pub fn replace(x: u64, start: usize, end: usize) -> Substitution<'a>
-        ensures { result ≡ Replace x start «end» }
+impl<'v> Substitution<'v> {
+    // The tree for x.
+    pub fn replace(x: u64, value: &'v [u64]) -> Substitution<'v>
+        ensures { result ≡ Replace x value.entry }
     {
-        Substitution::Replace { x, start, end }
+        Substitution::Replace { x, value }
     }
 
-    // The tree from start to end for the variable of the nearest binder.
-    pub fn instead(start: usize, end: usize) -> Substitution<'a>
-        ensures { result ≡ Instead start «end» }
+    // The tree for the variable of the nearest binder.
+    pub fn instead(value: &'v [u64]) -> Substitution<'v>
+        ensures { result ≡ Instead value.entry }
     {
-        Substitution::Instead { start, end }
+        Substitution::Instead { value }
     }
 
-    // The trees that lie so, for 0, 1 and so on.
-    pub fn bindings(spans: &'a [Span]) -> Substitution<'a>
-        ensures { result ≡ Bindings spans.entry }
+    // The trees for 0, 1 and so on.
+    pub fn bindings(values: &'v [&'v [u64]]) -> Substitution<'v>
+        ensures { result ≡ Bindings values.entry }
     {
-        Substitution::Bindings { spans }
+        Substitution::Bindings { values }
     }
 
     // What stands for a free number.
-    pub fn image(self, n: u64) -> Image
+    pub fn image(self, n: u64) -> Image<'v>
         ensures { result ≡ image_of self.entry n }
     {
         match self {
-            Substitution::Replace { x, start, end } => {
-                if n == x {
-                    Image::Tree { start, end }
-                } else {
-                    Image::Number(n)
-                }
-            }
-            Substitution::Instead { start, end } => {
-                if n == 0 {
-                    Image::Tree { start, end }
-                } else {
-                    Image::Number(n - 1)
-                }
-            }
-            Substitution::Bindings { spans } => {
-                if n < spans.len() as u64 {
-                    let span = spans[n as usize];
-                    Image::Tree {
-                        start: span.start,
-                        end: span.end,
-                    }
-                } else {
-                    Image::Number(n)
-                }
-            }
+            Substitution::Replace { x, value } if n == x => Image::Tree(value),
+            Substitution::Replace { .. } => Image::Number(n),
+            Substitution::Instead { value } if n == 0 => Image::Tree(value),
+            Substitution::Instead { .. } => Image::Number(n - 1),
+            Substitution::Bindings { values } => match values.get(n as usize) {
+                Some(value) => Image::Tree(value),
+                None => Image::Number(n),
+            },
         }
     }
 }

@@ -1,9 +1,9 @@
 // Terms moved into lent space: their variables renamed, and terms put for them.
 #![tactic(auto)]
 
-ghost use Rattle.std.specs.Prelude.{◌≡◌, ◌^◌, ◌<◌, length, nat_le};
+ghost use Rattle.std.specs.Prelude.{◌^◌, ◌<◌};
 ghost use Rattle.terms.specs.Rows.{rename, raise, down, replace, instantiate};
-ghost use Rattle.moves.specs.Images.{Spans};
+ghost use Rattle.moves.specs.Images.{Puts};
 ghost use Rattle.moves.specs.Moved.{OneTerm, Moved, MovedWith, put};
 ghost use Rattle.moves.specs.Renamings.{renamed, most};
 
@@ -11,13 +11,13 @@ pub mod images;
 pub mod laws;
 pub mod occurs;
 pub mod renaming;
-pub mod space;
+pub mod scope;
 pub mod substitution;
 
 use images::Substitution;
-use renaming::{Renaming, rename_row};
-use substitution::{count_row, substitute_row};
+use renaming::{Renaming, rename};
 use terms::extent::skip;
+use terms::forest::Trees;
 
 // Why a term is not moved.
 #[derive(Clone, Copy, PartialEq, Eq, Debug)]
@@ -30,21 +30,15 @@ pub enum Unmoved {
     NoRoom,
 }
 
-// Are the cells one term?
-fn is_term(cells: &[u64]) -> bool
+// The cells as one tree, if they are one term.
+fn one_term(cells: &[u64]) -> Option<Trees<'_>>
     ensures { OneTerm cells.now result }
 {
-    match skip(cells, 0, 1) {
-        Some(end) => end == cells.len(),
-        None => false,
+    let end = skip(cells, 0, 1)?;
+    if end != cells.len() {
+        return None;
     }
-}
-
-// Has the space room for so many cells?
-fn has_room(space: &[u64], count: usize) -> bool
-    ensures { result ≡ nat_le count (length space.now) }
-{
-    count <= space.len()
+    Some(Trees { cells, at: 0, n: 1 })
 }
 
 // The term with its free variables renamed, at the front of the space. Answers its count.
@@ -52,13 +46,13 @@ fn rename_term(cells: &[u64], how: Renaming, space: &mut [u64]) -> Result<usize,
     requires { most how < 2 ^ 63 }
     ensures { Moved (rename (renamed how) 0 0) cells.now space.old space.new result }
 {
-    if !is_term(cells) {
+    let Some(term) = one_term(cells) else {
         return Err(Unmoved::NoTerm);
-    }
-    if !has_room(space, cells.len()) {
+    };
+    if cells.len() > space.len() {
         return Err(Unmoved::NoRoom);
     }
-    Ok(rename_row(cells, 0, 1, space, 0, how, 0, 0))
+    Ok(rename(term, how, space))
 }
 
 // The term with a value put for one of its free variables, at the front of the space. Answers its count.
@@ -68,22 +62,16 @@ fn put_value(
     how: Substitution,
     space: &mut [u64],
 ) -> Result<usize, Unmoved>
-    requires { Spans how (length value.now) }
+    requires { Puts how value.now }
     ensures { MovedWith (put how.entry) cells.now value.now space.old space.new result }
 {
-    if !is_term(cells) {
+    let Some(term) = one_term(cells) else {
         return Err(Unmoved::NoTerm);
-    }
-    if !is_term(value) {
+    };
+    let Some(_value) = one_term(value) else {
         return Err(Unmoved::NoValue);
-    }
-    match count_row(cells, 0, 1, how, 0, 0, space.len()) {
-        None => Err(Unmoved::NoRoom),
-        Some(_) => {
-            let (_, count) = substitute_row(cells, 0, 1, value, how, space, 0, 0, 0);
-            Ok(count)
-        }
-    }
+    };
+    substitution::substitute(term, how, space).ok_or(Unmoved::NoRoom)
 }
 
 // The free numbers raised.
@@ -104,7 +92,7 @@ pub fn lower(cells: &[u64], space: &mut [u64]) -> Result<usize, Unmoved>
 pub fn substitute(cells: &[u64], x: u32, value: &[u64], space: &mut [u64]) -> Result<usize, Unmoved>
     ensures { MovedWith (λ v t. replace v x t) cells.now value.now space.old space.new result }
 {
-    let how = Substitution::replace(x as u64, 0, value.len());
+    let how = Substitution::replace(x as u64, value);
     put_value(cells, value, how, space)
 }
 
@@ -112,7 +100,7 @@ pub fn substitute(cells: &[u64], x: u32, value: &[u64], space: &mut [u64]) -> Re
 pub fn instantiate(cells: &[u64], value: &[u64], space: &mut [u64]) -> Result<usize, Unmoved>
     ensures { MovedWith instantiate cells.now value.now space.old space.new result }
 {
-    let how = Substitution::instead(0, value.len());
+    let how = Substitution::instead(value);
     put_value(cells, value, how, space)
 }
 

@@ -1,12 +1,15 @@
 // The free variables of a term given other numbers.
-ghost use Rattle.std.specs.Prelude.{◌≡◌, ◌+◌, ◌-◌, ◌^◌, ◌<◌, ◌≤◌, length};
+ghost use Rattle.std.specs.Prelude.{◌≡◌, ◌+◌, ◌^◌, ◌<◌, length};
 ghost use Rattle.terms.specs.Cells.{renumber};
-ghost use Rattle.terms.specs.Lists.{over};
-ghost use Rattle.terms.specs.Rows.{Row, flat, size, rename};
-ghost use Rattle.terms.specs.Standing.{Stands};
-ghost use Rattle.moves.specs.Renamings.{renamed, most, free, first_above, Fitting};
+ghost use Rattle.terms.specs.Forest.{Are};
+ghost use Rattle.terms.specs.Rows.{Row, rename};
+ghost use Rattle.moves.specs.Moved.{Written};
+ghost use Rattle.moves.specs.Renamings.{renamed, most, free, first_above};
+ghost use Rattle.moves.specs.Scopes.{Fits};
 
-use terms::cell::{binder, children, kind, payload};
+use crate::scope::Scope;
+use terms::cell::{kind, payload};
+use terms::forest::Trees;
 
 // What becomes of a free number.
 #[derive(Clone, Copy, PartialEq, Eq, Debug)]
@@ -27,15 +30,13 @@ impl Renaming {
         requires { n + most self < 2 ^ 64 }
         ensures { result ≡ renamed self n }
     {
-        match self {
-            Renaming::Raise(by) => n + by,
-            Renaming::Lower => n.saturating_sub(1),
-            Renaming::Exchange => match n {
-                0 => 1,
-                1 => 0,
-                _ => n,
-            },
-            Renaming::Beyond => { if n == 0 { 0 } else { n + 1 } }
+        match (self, n) {
+            (Renaming::Raise(by), _) => n + by,
+            (Renaming::Lower, _) => n.saturating_sub(1),
+            (Renaming::Exchange, 0) => 1,
+            (Renaming::Exchange, 1) => 0,
+            (Renaming::Exchange, _) | (Renaming::Beyond, 0) => n,
+            (Renaming::Beyond, _) => n + 1,
         }
     }
 }
@@ -44,12 +45,10 @@ impl Renaming {
 pub fn free_number(c: u64, under: u64) -> Option<u64>
     ensures { result ≡ free under c }
 {
-    let p = payload(c) as u64;
-    if kind(c) == 0 && p >= under {
-        Some(p - under)
-    } else {
-        None
+    if kind(c) != 0 {
+        return None;
     }
+    u64::from(payload(c)).checked_sub(under)
 }
 
 // A cell under so many binders, its free number, if it has one, renamed.
@@ -71,40 +70,26 @@ pub fn binders_above(n: usize, d: u64, b: u64) -> u64
     if n == 1 { d + b } else { d }
 }
 
-// Writes the n trees at a cell over the space from `to` on, their free variables renamed. They lie under d
-// binders, the last one under b more. Answers where the trees end.
-pub fn rename_row(
-    cells: &[u64],
-    at: usize,
-    n: usize,
-    out: &mut [u64],
-    to: usize,
-    how: Renaming,
-    d: u64,
-    b: u64,
-) -> usize
-    requires row { Fitting n cells.now at (length out.old - to) }
-    requires fits { to ≤ length out.old }
-    requires low { d + b + (length cells.now - at) < 2 ^ 62 }
+// Writes the trees at the front of `out`, their free variables renamed. Answers how many cells they are.
+pub fn rename_scope(scope: Scope, how: Renaming, out: &mut [u64]) -> usize
+    requires room { Fits scope.trees (length out.old) }
     requires mild { most how < 2 ^ 63 }
-    ensures end { (t : Row) → Stands t n cells.now at → result ≡ at + size t }
-    ensures wrote { (t : Row) → Stands t n cells.now at → out.new ≡ over out.old to (flat (rename (renamed how) d b t)) }
+    ensures { (t : Row) → Are scope.entry.trees t → Written (rename (renamed how) scope.entry.d scope.entry.b t) out.old out.new result }
 {
-    if n == 0 {
-        return at;
-    }
-    let c = cells[at];
-    let under = binders_above(n, d, b);
-    out[to] = renumber(c, how, under);
-    let next = rename_row(
-        cells,
-        at + 1,
-        children(c),
-        out,
-        to + 1,
-        how,
-        under,
-        binder(c),
-    );
-    rename_row(cells, next, n - 1, out, to + (next - at), how, d, b)
+    let Some((c, inner)) = scope.first() else {
+        return 0;
+    };
+    out[0] = renumber(c, how, inner.d);
+    let count = 1 + rename_scope(inner, how, &mut out[1..]);
+    let others = scope.others(scope.trees.at + count);
+    count + rename_scope(others, how, &mut out[count..])
+}
+
+// The same of trees under no binder.
+pub fn rename(trees: Trees, how: Renaming, out: &mut [u64]) -> usize
+    requires room { Fits trees (length out.old) }
+    requires mild { most how < 2 ^ 63 }
+    ensures { (t : Row) → Are trees.entry t → Written (rename (renamed how) 0 0 t) out.old out.new result }
+{
+    rename_scope(Scope::outer(trees), how, out)
 }

@@ -1,145 +1,88 @@
 // Trees put for the free variables of a term.
-ghost use Rattle.std.specs.Prelude.{◌≡◌, ℕ, ◌+◌, ◌-◌, ◌^◌, ◌<◌, ◌≤◌, length};
+ghost use Rattle.std.specs.Prelude.{◌≡◌, ℕ, ◌+◌, length};
+ghost use Rattle.terms.specs.Cells.{binder};
+ghost use Rattle.terms.specs.Forest.{Are};
 ghost use Rattle.terms.specs.Rows.{Row, size, substitute};
-ghost use Rattle.terms.specs.Standing.{Stands};
+ghost use Rattle.terms.specs.Rows.Row.{none, node};
 ghost use Rattle.moves.specs.Images.{Shows, Sizes};
-ghost use Rattle.moves.specs.Substitutions.{Spent, Putting, Substituted};
+ghost use Rattle.moves.specs.Substitutions.{Spent, Putting, PuttingFirst, Put, Substituted};
 
 use crate::images::Substitution;
-use crate::renaming::{binders_above, free_number};
-use terms::cell::{binder, children};
-use terms::extent::skip;
+use crate::renaming::free_number;
+use crate::scope::Scope;
+use terms::forest::Trees;
 
-// Where the n trees that stand at a cell end.
-pub fn end_of(cells: &[u64], at: usize, n: usize) -> usize
-    requires { (t : Row) × Stands t n cells.now at }
-    ensures { (t : Row) → Stands t n cells.now at → result ≡ at + size t }
+// Whether the trees fit the room with trees put for their free variables: where they end, and the room that is left.
+#[cycle(counting)]
+pub fn count_scope(scope: Scope, how: Substitution, room: usize) -> Option<(usize, usize)>
+    ensures { (t : Row) (s : ℕ → Row) → Are scope.entry.trees t → Sizes how.entry s → Spent (scope.entry.trees.at + size t) (size (substitute s scope.entry.d scope.entry.b t)) room result }
 {
-    match skip(cells, at, n) {
-        Some(end) => end,
-        None => unreachable(),
-    }
+    let Some((c, inner)) = scope.first() else {
+        return Some((scope.trees.at, room));
+    };
+    let (next, left) = count_first(c, inner, how, room)?;
+    count_scope(scope.others(next), how, left)
 }
 
-// Whether the tree at a cell, under d binders, fits the room with trees put for its free variables: where it
-// ends, and the room that it leaves.
+// The same of one tree, by its cell and its children.
 #[cycle(counting)]
-pub fn count_tree(
-    cells: &[u64],
-    at: usize,
-    how: Substitution,
-    d: u64,
-    room: usize,
-) -> Option<(usize, usize)>
-    requires tree { (t : Row) × Stands t 1 cells.now at }
-    requires low { d + (length cells.now - at) < 2 ^ 62 }
-    ensures { (t : Row) (s : ℕ → Row) → Stands t 1 cells.now at → Sizes how.entry s → Spent (at + size t) (size (substitute s d 0 t)) room result }
+fn count_first(c: u64, inner: Scope, how: Substitution, room: usize) -> Option<(usize, usize)>
+    requires { inner.b ≡ binder c }
+    ensures { (ks : Row) (s : ℕ → Row) → Are inner.entry.trees ks → Sizes how.entry s → Spent (inner.entry.trees.at + size ks) (size (substitute s inner.entry.d 0 (node c ks none))) room result }
 {
-    let c = cells[at];
-    match free_number(c, d) {
-        Some(n) => {
-            let size = how.image(n).size();
-            if size > room {
-                None
-            } else {
-                Some((end_of(cells, at + 1, children(c)), room - size))
-            }
+    match free_number(c, inner.d) {
+        Some(x) => {
+            let left = room.checked_sub(how.image(x).size())?;
+            Some((inner.trees.end(), left))
         }
         None => {
-            if room == 0 {
-                None
-            } else {
-                count_row(cells, at + 1, children(c), how, d, binder(c), room - 1)
-            }
+            let left = room.checked_sub(1)?;
+            count_scope(inner, how, left)
         }
     }
 }
 
-// The same of n trees, the last of which lies under b more binders.
-#[cycle(counting)]
-pub fn count_row(
-    cells: &[u64],
-    at: usize,
-    n: usize,
-    how: Substitution,
-    d: u64,
-    b: u64,
-    room: usize,
-) -> Option<(usize, usize)>
-    requires row { (t : Row) × Stands t n cells.now at }
-    requires low { d + b + (length cells.now - at) < 2 ^ 62 }
-    ensures { (t : Row) (s : ℕ → Row) → Stands t n cells.now at → Sizes how.entry s → Spent (at + size t) (size (substitute s d b t)) room result }
-{
-    if n == 0 {
-        return Some((at, room));
-    }
-    let under = binders_above(n, d, b);
-    let (next, left) = count_tree(cells, at, how, under, room)?;
-    count_row(cells, next, n - 1, how, d, b, left)
-}
-
-// Writes the tree at a cell, under d binders, over the space from `to` on, with the trees among the values put
-// for its free variables. Answers where it ends, and where what was written does.
+// Writes the trees at the front of `out`, with trees put for their free variables. Answers where they end, and how
+// many cells are written.
 #[cycle(substituting)]
-pub fn substitute_tree(
-    cells: &[u64],
-    at: usize,
-    values: &[u64],
-    how: Substitution,
-    out: &mut [u64],
-    to: usize,
-    d: u64,
-) -> (usize, usize)
-    requires tree { Putting 1 cells.now at values.now how d 0 (length out.old - to) }
-    requires fits { to ≤ length out.old }
-    requires low { d + (length cells.now - at) < 2 ^ 62 }
-    ensures { (t : Row) (s : ℕ → Row) → Stands t 1 cells.now at → Shows values.now how.entry s → Substituted t (substitute s d 0 t) at to out.old out.new result }
+pub fn substitute_scope(scope: Scope, how: Substitution, out: &mut [u64]) -> (usize, usize)
+    requires { Putting scope how (length out.old) }
+    ensures { (t : Row) (s : ℕ → Row) → Are scope.entry.trees t → Shows how.entry s → Substituted (scope.entry.trees.at + size t) (substitute s scope.entry.d scope.entry.b t) out.old out.new result }
 {
-    let c = cells[at];
-    match free_number(c, d) {
-        Some(n) => {
-            let upto = how.image(n).write(values, out, to, d);
-            (end_of(cells, at + 1, children(c)), upto)
-        }
+    let Some((c, inner)) = scope.first() else {
+        return (scope.trees.at, 0);
+    };
+    let (next, count) = substitute_first(c, inner, how, out);
+    let others = scope.others(next);
+    let (end, more) = substitute_scope(others, how, &mut out[count..]);
+    (end, count + more)
+}
+
+// The same of one tree, by its cell and its children.
+#[cycle(substituting)]
+fn substitute_first(c: u64, inner: Scope, how: Substitution, out: &mut [u64]) -> (usize, usize)
+    requires bound { inner.b ≡ binder c }
+    requires tree { PuttingFirst c inner how (length out.old) }
+    ensures { (ks : Row) (s : ℕ → Row) → Are inner.entry.trees ks → Shows how.entry s → Substituted (inner.entry.trees.at + size ks) (substitute s inner.entry.d 0 (node c ks none)) out.old out.new result }
+{
+    match free_number(c, inner.d) {
+        Some(x) => (inner.trees.end(), how.image(x).write(out, inner.d)),
         None => {
-            out[to] = c;
-            substitute_row(
-                cells,
-                at + 1,
-                children(c),
-                values,
-                how,
-                out,
-                to + 1,
-                d,
-                binder(c),
-            )
+            out[0] = c;
+            let (end, count) = substitute_scope(inner, how, &mut out[1..]);
+            (end, 1 + count)
         }
     }
 }
 
-// The same of n trees, the last of which lies under b more binders.
-#[cycle(substituting)]
-pub fn substitute_row(
-    cells: &[u64],
-    at: usize,
-    n: usize,
-    values: &[u64],
-    how: Substitution,
-    out: &mut [u64],
-    to: usize,
-    d: u64,
-    b: u64,
-) -> (usize, usize)
-    requires row { Putting n cells.now at values.now how d b (length out.old - to) }
-    requires fits { to ≤ length out.old }
-    requires low { d + b + (length cells.now - at) < 2 ^ 62 }
-    ensures { (t : Row) (s : ℕ → Row) → Stands t n cells.now at → Shows values.now how.entry s → Substituted t (substitute s d b t) at to out.old out.new result }
+// Writes trees under no binder at the front of `out`, with trees put for their free variables. Answers how many cells
+// these are; none, and nothing written, where `out` has not so many.
+pub fn substitute(trees: Trees, how: Substitution, out: &mut [u64]) -> Option<usize>
+    requires { (s : ℕ → Row) × Shows how s }
+    ensures { (t : Row) (s : ℕ → Row) → Are trees.entry t → Shows how.entry s → Put (substitute s 0 0 t) out.old out.new result }
 {
-    if n == 0 {
-        return (at, to);
-    }
-    let under = binders_above(n, d, b);
-    let (next, upto) = substitute_tree(cells, at, values, how, out, to, under);
-    substitute_row(cells, next, n - 1, values, how, out, upto, d, b)
+    let scope = Scope::outer(trees);
+    let _left = count_scope(scope, how, out.len())?;
+    let (_end, count) = substitute_scope(scope, how, out);
+    Some(count)
 }

@@ -1,8 +1,8 @@
 use Rattle.std.proofs.Common.{◌+◌, ◌-◌, ◌*◌, length}
 use Rattle.moves.proofs.substitution.+counting.Given as goal
 
-abbrev pub decreases-count_row : goal.decreases-count_row
-decreases-count_row l = 2 * (length l.cells.now - l.at) + 1
+abbrev pub decreases-count_scope : goal.decreases-count_scope
+decreases-count_scope l = 2 * (length l.scope.trees.cells.now - l.scope.trees.at) + 1
 
-abbrev pub decreases-count_tree : goal.decreases-count_tree
-decreases-count_tree l = 2 * (length l.cells.now - l.at)
+abbrev pub decreases-count_first : goal.decreases-count_first
+decreases-count_first l = 2 * (length l.inner.trees.cells.now - l.inner.trees.at) + 2

@@ -1,84 +1,86 @@
-use Rattle.std.proofs.Common.{◌<◌, length, get_or, refl, arith, length-set}
-use Rattle.terms.proofs.Steps.{opened, moved, first_tree, stands_first}
-use Rattle.moves.proofs.Renames.{first_is, first_most}
-use Rattle.moves.proofs.Substitutes.{alone, tree_here, hit_size, tree_hit, miss_size, tree_miss, sub_size, joined, nothing, shown_by}
+use Rattle.std.proofs.Common.{length, sym, ap, arith}
+use Rattle.terms.specs.Rows.{flat, size, substitute}
+use Rattle.moves.proofs.Overs.{fronts_length, fronts_none, fronts_row, row_fronts, part_length}
+use Rattle.moves.proofs.Scopes.{cut, ended, rest_are, no_trees}
+use Rattle.moves.proofs.Substitutes.{hit_size, tree_hit, miss_size, tree_miss, sub_size, rest_size, joined, shown_by}
 use Rattle.moves.proofs.substitution.+substituting.Goals as goal
 
-pub substitute_row-returns-then-n-eq0 : goal.substitute_row-returns-then-n-eq0
-substitute_row-returns-then-n-eq0 t c = λ u s st z. nothing u s _ _ _ _ _ _ _ st c.if-n-eq0.true
-
-pub substitute_row-substitute_tree-next-requires : goal.substitute_row-substitute_tree-next-requires
-substitute_row-substitute_tree-next-requires t c =
-    let p = c.requires.row in
-    let o = opened p.row p.stands c.if-n-eq0.false in
-    let h : c.args.at < length c.args.cells.now = omega (arith, o.within, o.sized) in
-    let e = first_is o c.args.d c.args.b c.binders_above-under.result c.if-n-eq0.false c.binders_above-under.ensures in
-    let z = sub_size p.stands o p.s _ _ _ e in
-    (omega arith, (record { row = first_tree p.stands o; stands = stands_first p.stands o; s = p.s; shows = p.shows; small = omega (arith, z, p.small) }, (omega arith, omega (arith, first_most c.args.n c.args.d c.args.b c.binders_above-under.result c.binders_above-under.ensures))))
-
-pub substitute_row-substitute_row-requires : goal.substitute_row-substitute_row-requires
-substitute_row-substitute_row-requires t c =
-    let p = c.requires.row in
-    let o = opened p.row p.stands c.if-n-eq0.false in
-    let e = first_is o c.args.d c.args.b c.binders_above-under.result c.if-n-eq0.false c.binders_above-under.ensures in
-    let z = sub_size p.stands o p.s _ _ _ e in
-    let f = c.substitute_tree-next.ensures (first_tree p.stands o) p.s (stands_first p.stands o) p.shows in
-    (omega (arith, f.ends, o.within, o.sized), (record { row = o.r; stands = moved o.others refl (omega (arith, f.ends)); s = p.s; shows = p.shows; small = omega (arith, z, p.small, f.upto) }, (omega (arith, z, p.small, f.upto), omega (arith, f.ends))))
-
-pub substitute_row-returns : goal.substitute_row-returns
-substitute_row-returns t c = λ u s st z.
-    let o = opened u st c.if-n-eq0.false in
-    let e = first_is o c.args.d c.args.b c.binders_above-under.result c.if-n-eq0.false c.binders_above-under.ensures in
-    let f = c.substitute_tree-next.ensures (first_tree st o) s (stands_first st o) z in
-    joined st o s _ _ _ e _ _ _ _ _ _ _ f (c.substitute_row.ensures o.r s (moved o.others refl (omega (arith, f.ends))) z)
-
-pub substitute_tree-offset_bounds-cells-at : goal.substitute_tree-offset_bounds-cells-at
-substitute_tree-offset_bounds-cells-at t c = let h = tree_here c.requires.tree.stands in omega arith
-
-pub substitute_tree-bounds-cells-at : goal.substitute_tree-bounds-cells-at
-substitute_tree-bounds-cells-at t c = tree_here c.requires.tree.stands
-
-pub substitute_tree-write-upto-requires : goal.substitute_tree-write-upto-requires
-substitute_tree-write-upto-requires t c =
-    let p = c.requires.tree in
-    let k = hit_size p.stands p.s c.args.d c.in-Some.n c.in-Some.ensures in
+pub substitute_scope-returns-in_default : goal.substitute_scope-returns-in_default
+substitute_scope-returns-in_default t c = λ u s a z.
+    let e = no_trees c.in_default.ensures a in
     record {
-      shown = (p.s c.in-Some.n, shown_by c.args.values.now c.args.how p.s c.in-Some.n c.image.result c.image.ensures p.shows, omega (arith, k, p.small));
-      low = omega arith;
+      ends = omega (arith, ap size e);
+      wrote = row_fronts (ap (λ v. flat (substitute s c.args.scope.d c.args.scope.b v)) (sym e)) (fronts_none c.args.out.now);
     }
 
-pub substitute_tree-overflow_add-at : goal.substitute_tree-overflow_add-at
-substitute_tree-overflow_add-at t c = let h = tree_here c.requires.tree.stands in omega arith
+pub substitute_scope-substitute_first-next-requires : goal.substitute_scope-substitute_first-next-requires
+substitute_scope-substitute_first-next-requires t c =
+    let q = c.requires in
+    let p = c.in-Some.ensures in
+    let k = cut p q.stands in
+    (omega (arith, ap length p.part.cells, k.starts, k.within, k.sized), (p.last, record { kids = k.ks; stands = k.inner; s = q.s; shows = q.shows; small = omega (arith, sub_size k q.s, q.small) }))
 
-pub substitute_tree-end_of-requires : goal.substitute_tree-end_of-requires
-substitute_tree-end_of-requires t c =
-    let o = alone c.requires.tree.stands in
-    (o.ks, moved o.first c.children.ensures refl)
+pub substitute_scope-others-others-requires-clause-ended : goal.substitute_scope-others-others-requires-clause-ended
+substitute_scope-others-others-requires-clause-ended t c =
+    let q = c.requires in
+    ended c.in-Some.ensures (λ ks a. omega (arith, (c.substitute_first-next.ensures ks q.s a q.shows).ends, c.in-Some.ensures.part.start))
 
-pub substitute_tree-bounds-out-to : goal.substitute_tree-bounds-out-to
-substitute_tree-bounds-out-to t c =
-    let p = c.requires.tree in
-    omega (arith, miss_size p.stands p.s c.args.d _ c.in-None.ensures refl, p.small)
+pub substitute_scope-offset_bounds-out-count : goal.substitute_scope-offset_bounds-out-count
+substitute_scope-offset_bounds-out-count t c =
+    let q = c.requires in
+    let k = cut c.in-Some.ensures q.stands in
+    let f = c.substitute_first-next.ensures k.ks q.s k.inner q.shows in
+    omega (arith, f.wrote.fits)
 
-pub substitute_tree-overflow_add-at-in-None : goal.substitute_tree-overflow_add-at-in-None
-substitute_tree-overflow_add-at-in-None t c = let h = tree_here c.requires.tree.stands in omega arith
+pub substitute_scope-slice_bounds-substitute_scope-count : goal.substitute_scope-slice_bounds-substitute_scope-count
+substitute_scope-slice_bounds-substitute_scope-count t c =
+    let q = c.requires in
+    let k = cut c.in-Some.ensures q.stands in
+    let f = c.substitute_first-next.ensures k.ks q.s k.inner q.shows in
+    omega (arith, f.wrote.fits, fronts_length (fronts_row f.wrote))
 
-pub substitute_tree-substitute_row-requires : goal.substitute_tree-substitute_row-requires
-substitute_tree-substitute_row-requires t c =
-    let p = c.requires.tree in
-    let o = alone p.stands in
-    let h = tree_here p.stands in
-    let k = miss_size p.stands p.s c.args.d _ c.in-None.ensures c.binder.ensures in
-    let q = length-set c.args.out.now c.args.to (get_or c.args.cells.now c.args.at 0) in
-    (omega arith, (record { row = o.ks; stands = moved o.first c.children-in-None.ensures refl; s = p.s; shows = p.shows; small = omega (arith, k, p.small) }, (omega (arith, k, p.small), omega (arith, c.binder.ensures))))
+pub substitute_scope-slice_bounds-substitute_scope-start : goal.substitute_scope-slice_bounds-substitute_scope-start
+substitute_scope-slice_bounds-substitute_scope-start t c =
+    let q = c.requires in
+    let k = cut c.in-Some.ensures q.stands in
+    let f = c.substitute_first-next.ensures k.ks q.s k.inner q.shows in
+    omega (arith, f.wrote.fits, fronts_length (fronts_row f.wrote))
 
-pub substitute_tree-returns-in-Some : goal.substitute_tree-returns-in-Some
-substitute_tree-returns-in-Some t c = λ u s st z.
-    let o = alone st in
-    let i = shown_by c.args.values.now c.args.how s c.in-Some.n c.image.result c.image.ensures z in
-    tree_hit st s c.args.d c.in-Some.n c.in-Some.ensures _ _ _ _ _ (c.end_of.ensures o.ks (moved o.first c.children.ensures refl)) (c.write-upto.ensures.end (s c.in-Some.n) i) (c.write-upto.ensures.wrote (s c.in-Some.n) i)
+pub substitute_scope-substitute_scope-end-requires : goal.substitute_scope-substitute_scope-end-requires
+substitute_scope-substitute_scope-end-requires t c =
+    let q = c.requires in
+    let k = cut c.in-Some.ensures q.stands in
+    let e = c.others-others.ensures in
+    let f = c.substitute_first-next.ensures k.ks q.s k.inner q.shows in
+    (omega (arith, ap length e.part.cells, e.part.start, f.ends, k.starts, k.within, k.sized), record { row = k.r; stands = rest_are k e (omega (arith, f.ends, k.starts)); s = q.s; shows = q.shows; small = omega (arith, rest_size k q.s e, sub_size k q.s, q.small, f.wrote.count, fronts_length (fronts_row f.wrote), part_length) })
 
-pub substitute_tree-returns-in-None : goal.substitute_tree-returns-in-None
-substitute_tree-returns-in-None t c = λ u s st z.
-    let o = alone st in
-    tree_miss st s c.args.d _ c.in-None.ensures c.binder.ensures _ _ _ _ (c.substitute_row.ensures o.ks s (moved o.first c.children-in-None.ensures refl) z)
+pub substitute_scope-overflow_add-result : goal.substitute_scope-overflow_add-result
+substitute_scope-overflow_add-result t c =
+    let q = c.requires in
+    let k = cut c.in-Some.ensures q.stands in
+    let e = c.others-others.ensures in
+    let f = c.substitute_first-next.ensures k.ks q.s k.inner q.shows in
+    let g = c.substitute_scope-end.ensures k.r q.s (rest_are k e (omega (arith, f.ends, k.starts))) q.shows in
+    omega (arith, (joined k q.s e f g).wrote.fits)
+
+pub substitute_scope-returns : goal.substitute_scope-returns
+substitute_scope-returns t c = λ u s a z.
+    let k = cut c.in-Some.ensures a in
+    let e = c.others-others.ensures in
+    let f = c.substitute_first-next.ensures k.ks s k.inner z in
+    joined k s e f (c.substitute_scope-end.ensures k.r s (rest_are k e (omega (arith, f.ends, k.starts))) z)
+
+pub substitute_first-write-requires-clause-shown : goal.substitute_first-write-requires-clause-shown
+substitute_first-write-requires-clause-shown t c =
+    let q = c.requires.tree in
+    (q.s c.in-Some.x, shown_by c.args.how q.s c.in-Some.x c.image.result c.image.ensures q.shows, omega (arith, hit_size q.s c.args.inner.d c.args.c c.in-Some.x q.kids c.in-Some.ensures, q.small))
+
+pub substitute_first-returns-in-Some : goal.substitute_first-returns-in-Some
+substitute_first-returns-in-Some t c = λ ks s a z.
+    tree_hit s c.args.inner.d c.args.c c.in-Some.x ks c.in-Some.ensures (c.end.ensures ks a) (c.write.ensures (s c.in-Some.x) (shown_by c.args.how s c.in-Some.x c.image.result c.image.ensures z))
+
+pub substitute_first-returns-in-None : goal.substitute_first-returns-in-None
+substitute_first-returns-in-None t c = λ ks s a z.
+    let q = c.requires.tree in
+    let l = miss_size q.s c.args.inner.d c.args.inner.b c.args.c q.kids c.in-None.ensures c.requires.bound in
+    tree_miss s c.args.inner.d c.args.inner.b c.args.c ks c.in-None.ensures c.requires.bound (omega (arith, l, q.small)) (c.substitute_scope-end.ensures ks s a z)
