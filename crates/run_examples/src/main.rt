@@ -3,8 +3,9 @@
 
 use layout::Walk;
 use rewriting::LetRewriting;
-use runs::call::{Answer, Call, Lent, Settlement};
+use runs::call::{Call, Lent};
 use runs::replay::replay;
+use runs::step::Step;
 
 // Constructor 1 with no child, and over one.
 const LEAF: u64 = (32 << 58) + 1;
@@ -14,52 +15,28 @@ const OVER: u64 = (32 << 58) + (1 << 48) + 1;
 // A place of 511 entries.
 const LONG: [u8; 511] = [0; 511];
 
-const BLANK: Walk = Walk {
-    left: 0,
-    above: 0,
-    last: 0,
-};
+// The memory that suffices, and none.
+const ENOUGH: Lent = Lent::ENOUGH;
 
-// The memory that suffices.
-const ENOUGH: Lent = Lent {
-    table: 2048,
-    scratch: 2048,
-    walk: 256,
+const NOTHING: Lent = Lent {
+    table: 0,
+    scratch: 0,
+    walk: 0,
 };
-
-// Prints an answer.
-fn show_answer(rt: &HostRuntime, name: &str, answer: Answer) -> anyhow::Result<()> {
-    match answer {
-        Answer::Opened(ticket) => println!(rt; "{name}: ticket {ticket}")?,
-        Answer::Stepped | Answer::Withdrawn => println!(rt; "{name}: done")?,
-        Answer::Settled(Settlement::Reached) => println!(rt; "{name}: reached")?,
-        Answer::Settled(Settlement::Differs(cell)) => println!(rt; "{name}: different {cell}")?,
-        Answer::Refused(refusal) => {
-            let number = refusal.number();
-            let place = refusal.place();
-            println!(rt; "{name}: no {number} {place}")?
-        }
-    }
-    Ok(())
-}
 
 // Performs the calls on a fresh run, and prints the last answer. Answers how many cells of scratch are not zero then.
 fn show(rt: &HostRuntime, name: &str, calls: &[Call]) -> anyhow::Result<usize> {
     let lets = LetRewriting::new(Vec::new(rt.alloc()));
     let mut table = vec![in rt.alloc(); u64::MAX; 4096]?;
     let mut scratch = vec![in rt.alloc(); u64::MAX; 4096]?;
-    let mut walk = vec![in rt.alloc(); BLANK; 256]?;
+    let mut walk = vec![in rt.alloc(); Walk::default(); 256]?;
     let said = replay(rt.alloc(), lets, calls, &mut table, &mut scratch, &mut walk)?;
-    if let Some(last) = said.last() {
-        show_answer(rt, name, last.answer)?;
+    match said.last().map(|last| last.answer) {
+        Some(Ok(done)) => println!(rt; "{name}: {done}")?,
+        Some(Err(refusal)) => println!(rt; "{name}: {refusal}")?,
+        None => {}
     }
-    let mut kept: usize = 0;
-    for c in scratch.iter() {
-        if *c != 0 {
-            kept = kept.saturating_add(1);
-        }
-    }
-    Ok(kept)
+    Ok(scratch.iter().filter(|c| **c != 0).count())
 }
 
 // An opening with so much memory.
@@ -69,15 +46,7 @@ fn opening(rt: &HostRuntime, name: &str, lent: Lent) -> anyhow::Result<usize> {
 
 // Memories just below and at what is needed.
 fn memories(rt: &HostRuntime) -> anyhow::Result<()> {
-    opening(
-        rt,
-        "no memory",
-        Lent {
-            table: 0,
-            scratch: 0,
-            walk: 0,
-        },
-    )?;
+    opening(rt, "no memory", NOTHING)?;
     opening(
         rt,
         "a table of 2,047 cells",
@@ -129,10 +98,7 @@ fn openings(rt: &HostRuntime, name: &str, count: u16) -> anyhow::Result<()> {
 
 // An opening, and then a call.
 fn after_opening(rt: &HostRuntime, name: &str, call: Call) -> anyhow::Result<()> {
-    let mut calls = Vec::new(rt.alloc());
-    calls.push(Call::Open(&[OVER, LEAF], ENOUGH))?;
-    calls.push(call)?;
-    show(rt, name, &calls)?;
+    show(rt, name, &[Call::Open(&[OVER, LEAF], ENOUGH), call])?;
     Ok(())
 }
 
@@ -150,22 +116,29 @@ fn settlements(rt: &HostRuntime) -> anyhow::Result<()> {
 
 // Starts, places and rules.
 fn steps(rt: &HostRuntime) -> anyhow::Result<()> {
+    let step = Step {
+        rule: 4,
+        place: &[0],
+        argument: 0,
+        inner: &[],
+    };
+    let long_place = Step {
+        place: &LONG,
+        ..step
+    };
+    let long_inner = Step {
+        inner: &LONG,
+        ..step
+    };
+    let no_rule = Step { rule: 255, ..step };
     show(rt, "an empty start", &[Call::Open(&[], ENOUGH)])?;
-    after_opening(
-        rt,
-        "a place of 511 entries",
-        Call::Step(4, &LONG, 0, &[], ENOUGH),
-    )?;
+    after_opening(rt, "a place of 511 entries", Call::Step(long_place, ENOUGH))?;
     after_opening(
         rt,
         "an inner place of 511 entries",
-        Call::Step(4, &[0], 0, &LONG, ENOUGH),
+        Call::Step(long_inner, ENOUGH),
     )?;
-    after_opening(
-        rt,
-        "a rule that is none",
-        Call::Step(255, &[0], 0, &[], ENOUGH),
-    )
+    after_opening(rt, "a rule that is none", Call::Step(no_rule, ENOUGH))
 }
 
 fn main(rt: HostRuntime) -> anyhow::Result<()> {

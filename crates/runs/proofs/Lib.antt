@@ -1,3 +1,4 @@
+pub mod Mapped
 pub mod Decided
 pub mod Turns
 pub mod Wholes
@@ -5,7 +6,6 @@ pub mod Runs
 pub mod Plain
 pub mod Toy
 pub mod Made
-pub mod Turnings
 pub mod Ones
 pub mod Calling
 pub mod Tables

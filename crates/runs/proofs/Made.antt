@@ -10,11 +10,11 @@ use Rattle.runs.specs.Follows.{Follows, Opening, Opens}
 use Rattle.runs.specs.Theorem.{laid, Replayed}
 use Rattle.runs.specs.Calls.{chain_of, table_after, Called}
 use Rattle.runs.specs.declared.run.Run.{Run}
-use Rattle.runs.specs.declared.call.State.TheVariants.{Open}
+use Rattle.runs.specs.declared.call.State.TheVariants.{Idle, Open}
 use Rattle.runs.specs.declared.call.Said.{Said}
-use Rattle.runs.specs.declared.call.Answer.{Answer}
+use Rattle.runs.specs.Answers.{Answer}
 use Rattle.runs.proofs.Turns.{as_chain}
-use Rattle.runs.proofs.Runs.{Held, IsOpen, held_on, fresh_held, replayed}
+use Rattle.runs.proofs.Runs.{Held, held_on, fresh_held, replayed}
 
 -- the calls are made in turn, and this is said to each
 abbrev pub Made : {C : Type 0} {G : Ghosts C} → Meaning → Run C G → List ℕ → List Event → List Said → Run C G → List ℕ → Type 0
@@ -149,7 +149,7 @@ module _ (m : Meaning) (laws : Laws m) where
   pub from_calls : {C : Type 0} {G : Ghosts C} (run run' : Run C G) (table table' : List ℕ) (es : List Event) (xs : List Said) → chain_of run table ≡ fresh → Made m run table es xs run' table' → Replayed m es xs table table'
   from_calls run run' table table' es xs new f =
       let held : Held m (chain_of run table) = subst (Held m) (sym new) (fresh_held m laws) in
-      let idle : (chain_of run table).state ≡ Open → ⊥ = λ o. subst IsOpen (sym (ap (λ (d : Chain). d.state) (sym new) ∙ o)) tt in
+      let idle : (chain_of run table).state ≡ Open → ⊥ = λ o. let e : Idle ≡ Open = ap (λ (d : Chain). d.state) (sym new) ∙ o in cc in
       let s : Stands ⊥ (chain_of run table) table table = record { was = idle; holds = λ b. absurd b; stays = λ _. refl; past = refl } in
       let r = ends ⊥ table run run' table table' es xs f held s in
       replayed m laws es xs table table' (chain_of run' table') (subst (λ c. Follows m c es xs (chain_of run' table')) new r.follows) (λ o. r.holds (inr o)) (λ n. r.stays (λ b. n (right b)))

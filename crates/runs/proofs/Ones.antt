@@ -1,5 +1,5 @@
 -- Only question 1 tells 1. Assumes nothing.
-use Rattle.std.proofs.Common.{◌≡◌, ℕ, List, [], ◌∷◌, sym, subst, inl, inr}
+use Rattle.std.proofs.Common.{◌≡◌, ℕ, List, [], ◌∷◌, inl, inr}
 use Rattle.calculus.specs.Meaning.{Meaning}
 use Rattle.runs.specs.Questions.{Question, FirstNo}
 use Rattle.runs.specs.Steps.{Step, layout, lawful, step_questions}
@@ -10,23 +10,7 @@ use Rattle.runs.specs.declared.refusal.Refusal.TheVariants as no
 
 -- a refusal that is not 1
 abbrev pub IsPast1 : Refusal → Type 0
-IsPast1 no.Memory = ⊥
-IsPast1 no.NotIdle = Unit {0}
-IsPast1 no.Exhausted = Unit {0}
-IsPast1 (no.Misshapen i) = Unit {0}
-IsPast1 (no.Unlawful i) = Unit {0}
-IsPast1 no.NotOpen = Unit {0}
-IsPast1 no.Tampered = Unit {0}
-IsPast1 (no.NoChild i) = Unit {0}
-IsPast1 (no.NoSite i) = Unit {0}
-IsPast1 (no.NoRule i) = Unit {0}
-IsPast1 (no.Unfit i) = Unit {0}
-IsPast1 (no.Formless i) = Unit {0}
-IsPast1 (no.Barred i) = Unit {0}
-IsPast1 (no.Oversum i) = Unit {0}
-IsPast1 (no.Overlong i) = Unit {0}
-IsPast1 (no.TooDeep i) = Unit {0}
-IsPast1 no.WrongTicket = Unit {0}
+IsPast1 r = r ≡ no.Memory → ⊥
 
 abbrev Past : List (Question Refusal) → Type 0
 Past [] = Unit {0}
@@ -37,25 +21,22 @@ past_no [] r p n = absurd n
 past_no (q ∷ qs) r p (inl n) = p.0 r n
 past_no (q ∷ qs) r p (inr n) = past_no qs r p.1 n.1
 
-told_as : (r told : Refusal) → IsPast1 told → r ≡ told → IsPast1 r
-told_as r told p e = subst IsPast1 (sym e) p
-
 step_past : (m : Meaning) (cells : List ℕ) (s : Step) → Past (step_questions m cells s)
 step_past m cells s = (
-  λ r n. told_as r (no.NoChild n.0) tt n.2,
+  λ r n e. cc (n.2, e),
   (
-    λ r n. told_as r (no.NoSite n.0) tt n.2,
+    λ r n e. cc (n.2, e),
     (
-      λ r n. told_as r (no.NoRule n.0) tt n.2,
+      λ r n e. cc (n.2, e),
       (
-        λ r n. told_as r (no.Unfit n.0) tt n.2,
+        λ r n e. cc (n.2, e),
         (
-          λ r n. told_as r (no.Formless n.0) tt n.2,
+          λ r n e. cc (n.2, e),
           (
-            λ r n. told_as r (no.Barred n.0) tt n.2,
+            λ r n e. cc (n.2, e),
             (
-              λ r n. told_as r (no.Oversum n.0) tt n.2,
-              (λ r n. told_as r (no.Overlong n.0) tt n.2, (λ r n. told_as r (no.TooDeep n.0) tt n.2, tt)),
+              λ r n e. cc (n.2, e),
+              (λ r n e. cc (n.2, e), (λ r n e. cc (n.2, e), tt)),
             ),
           ),
         ),
@@ -71,12 +52,12 @@ module _ (m : Meaning) (c : Chain) (r : Refusal) (lent : Lent) (enough : Enough 
 
   pub open_past : (start : List ℕ) → FirstNo (questions m c (held m c ∷ []) (opening start lent)) r → IsPast1 r
   open_past start n =
-      behind (idle m c ∷ openable m c ∷ layout start ∷ lawful m start ∷ []) (λ q n. told_as q no.NotIdle tt n.1, (λ q n. told_as q no.Exhausted tt n.1, (λ q n. told_as q (no.Misshapen n.0) tt n.2, (λ q n. told_as q (no.Unlawful n.0) tt n.2, tt)))) n
+      behind (idle m c ∷ openable m c ∷ layout start ∷ lawful m start ∷ []) (λ q n e. cc (n.1, e), (λ q n e. cc (n.1, e), (λ q n e. cc (n.2, e), (λ q n e. cc (n.2, e), tt)))) n
 
   pub stepping_past : (s : Step) → FirstNo (questions m c (held m c ∷ []) (stepping s lent)) r → IsPast1 r
   stepping_past s n =
-      behind (going m c ∷ held m c ∷ step_questions m c.end s) (λ q n. told_as q no.NotOpen tt n.1, (λ q n. told_as q no.Tampered tt n.1, step_past m c.end s)) n
+      behind (going m c ∷ held m c ∷ step_questions m c.end s) (λ q n e. cc (n.1, e), (λ q n e. cc (n.1, e), step_past m c.end s)) n
 
   pub settling_past : (ticket : ℕ) (claim : List ℕ) → FirstNo (questions m c (held m c ∷ []) (settling ticket claim lent)) r → IsPast1 r
   settling_past ticket claim n =
-      behind (going m c ∷ matching m c ticket ∷ held m c ∷ layout claim ∷ lawful m claim ∷ []) (λ q n. told_as q no.NotOpen tt n.1, (λ q n. told_as q no.WrongTicket tt n.1, (λ q n. told_as q no.Tampered tt n.1, (λ q n. told_as q (no.Misshapen n.0) tt n.2, (λ q n. told_as q (no.Unlawful n.0) tt n.2, tt))))) n
+      behind (going m c ∷ matching m c ticket ∷ held m c ∷ layout claim ∷ lawful m claim ∷ []) (λ q n e. cc (n.1, e), (λ q n e. cc (n.1, e), (λ q n e. cc (n.1, e), (λ q n e. cc (n.2, e), (λ q n e. cc (n.2, e), tt))))) n

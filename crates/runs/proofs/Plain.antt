@@ -1,7 +1,7 @@
 -- From what a calculus answers to what a step is answered. Assumes nothing.
 use Rattle.std.proofs.Common.{◌≡◌, ℕ, ◌<◌, ◌≤◌, List, ◌++◌, length, refl, inl, inr, arith, length-append}
 use Rattle.terms.specs.Terms.{Deep}
-use Rattle.terms.specs.Places.{Names, At, Strays, whole}
+use Rattle.terms.specs.Places.{Names, At, whole}
 use Rattle.calculus.specs.Meaning.{Meaning, Gives, Refuses}
 use Rattle.calculus.specs.Laws.{Laws}
 use Rattle.calculus.specs.Answers.{Refused}
@@ -9,15 +9,10 @@ use Rattle.calculus.specs.declared.no.No.{No}
 use Rattle.calculus.specs.declared.no.No.TheVariants as say
 use Rattle.runs.specs.Questions.{FirstNo}
 use Rattle.runs.specs.Steps.{Step, Redex, step_questions, Rewrites, Leads}
-use Rattle.runs.specs.Rewriting.{refusal_of}
 use Rattle.runs.specs.declared.refusal.Refusal.{Refusal}
 use Rattle.runs.specs.declared.refusal.Refusal.TheVariants as no
 
 module _ (m : Meaning) (laws : Laws m) (cells : List ℕ) (s : Step) where
-  -- 8
-  pub strays : (k : ℕ) → Strays s.place cells k → FirstNo (step_questions m cells s) (no.NoChild k)
-  strays k h = inl (k, h, refl)
-
   module _ (l x r : List ℕ) (a : At cells s.place l x r) where
     here : (P : (left redex right : List ℕ) → Type 0) → P l x r → (i : ℕ) × Redex cells s.place P i
     here P p = (length l, record { left = l; redex = x; right = r; at = a; so = p; cell = refl })
@@ -28,10 +23,6 @@ module _ (m : Meaning) (laws : Laws m) (cells : List ℕ) (s : Step) where
     names : Names s.place cells
     names = record { tree = a.tree; is = a.is; there = a.there }
 
-    -- 9
-    pub no_site : (m.site s.place cells → ⊥) → FirstNo (step_questions m cells s) (no.NoSite (length l))
-    no_site h = inr (names, inl (there _ no.NoSite h))
-
     module _ (site : m.site s.place cells) where
       off : (j k : ℕ) → Refuses m s.rule s.argument s.inner x j → Refuses m s.rule s.argument s.inner x k → j < k → ⊥
       off j k p q f = let e = laws.number s.rule s.argument j k s.inner x p q in omega (arith, e)
@@ -40,28 +31,28 @@ module _ (m : Meaning) (laws : Laws m) (cells : List ℕ) (s : Step) where
       never u k g h = laws.either s.rule s.argument k s.inner x u g h
 
       -- 10 to 15, as the calculus says with a space of 2,048 cells
-      pub says_no : (e : No) → Refused m s.rule s.argument s.inner x 2048 e → FirstNo (step_questions m cells s) (refusal_of e (length l))
-      says_no say.NoRule h = inr (names, inr (here _ site, inl (there _ no.NoRule h)))
-      says_no say.Unfit h = inr (names, inr (here _ site, inr (here _ h.0, inl (there _ no.Unfit h.1))))
+      pub says_no : (e : No) → Refused m s.rule s.argument s.inner x 2048 e → FirstNo (step_questions m cells s) (no.Calculus e (length l))
+      says_no say.NoRule h = inr (names, inr (here _ site, inl (there _ (no.Calculus say.NoRule) h)))
+      says_no say.Unfit h = inr (names, inr (here _ site, inr (here _ h.0, inl (there _ (no.Calculus say.Unfit) h.1))))
       says_no say.Formless (inl h) =
-          inr (names, inr (here _ site, inr (here _ h.0, inr (here _ h.1, inl (there _ no.Formless (inl h.2))))))
+          inr (names, inr (here _ site, inr (here _ h.0, inr (here _ h.1, inl (there _ (no.Calculus say.Formless) (inl h.2))))))
       says_no say.Formless (inr h) =
-          inr (names, inr (here _ site, inr (here _ h.tried.has_rule, inr (here _ h.tried.fits, inl (there _ no.Formless (inr h))))))
+          inr (names, inr (here _ site, inr (here _ h.tried.has_rule, inr (here _ h.tried.fits, inl (there _ (no.Calculus say.Formless) (inr h))))))
       says_no say.Barred h =
-          inr (names, inr (here _ site, inr (here _ h.tried.has_rule, inr (here _ h.tried.fits, inr (here _ (h.tried.taken, λ k. off 12 13 k h (omega arith)), inl (there _ no.Barred h))))))
+          inr (names, inr (here _ site, inr (here _ h.tried.has_rule, inr (here _ h.tried.fits, inr (here _ (h.tried.taken, λ k. off 12 13 k h (omega arith)), inl (there _ (no.Calculus say.Barred) h))))))
       says_no say.Oversum h =
-          inr (names, inr (here _ site, inr (here _ h.tried.has_rule, inr (here _ h.tried.fits, inr (here _ (h.tried.taken, λ k. off 12 14 k h (omega arith)), inr (here _ (λ k. off 13 14 k h (omega arith)), inl (there _ no.Oversum h)))))))
+          inr (names, inr (here _ site, inr (here _ h.tried.has_rule, inr (here _ h.tried.fits, inr (here _ (h.tried.taken, λ k. off 12 14 k h (omega arith)), inr (here _ (λ k. off 13 14 k h (omega arith)), inl (there _ (no.Calculus say.Oversum) h)))))))
       says_no say.Overlong (u, g, h) =
-          inr (names, inr (here _ site, inr (here _ g.tried.has_rule, inr (here _ g.tried.fits, inr (here _ (g.tried.taken, never u 12 g), inr (here _ (never u 13 g), inr (here _ (never u 14 g), inl (there _ no.Overlong (u, g, omega (arith, h, length-append l (u ++ r), length-append u r))))))))))
+          inr (names, inr (here _ site, inr (here _ g.tried.has_rule, inr (here _ g.tried.fits, inr (here _ (g.tried.taken, never u 12 g), inr (here _ (never u 13 g), inr (here _ (never u 14 g), inl (there _ (no.Calculus say.Overlong) (u, g, omega (arith, h, length-append l (u ++ r), length-append u r))))))))))
 
       module _ (u : List ℕ) (g : Gives m s.rule s.argument s.inner x u) where
         rewrites : Rewrites m cells s (whole l u r)
         rewrites = record { left = l; redex = x; right = r; at = a; result = u; gives = g; is = refl }
 
         -- 15, of the whole
-        pub too_long : 2048 < length (whole l u r) → FirstNo (step_questions m cells s) (no.Overlong (length l))
+        pub too_long : 2048 < length (whole l u r) → FirstNo (step_questions m cells s) (no.Calculus say.Overlong (length l))
         too_long h =
-            inr (names, inr (here _ site, inr (here _ g.tried.has_rule, inr (here _ g.tried.fits, inr (here _ (g.tried.taken, never u 12 g), inr (here _ (never u 13 g), inr (here _ (never u 14 g), inl (there _ no.Overlong (u, g, h)))))))))
+            inr (names, inr (here _ site, inr (here _ g.tried.has_rule, inr (here _ g.tried.fits, inr (here _ (g.tried.taken, never u 12 g), inr (here _ (never u 13 g), inr (here _ (never u 14 g), inl (there _ (no.Calculus say.Overlong) (u, g, h)))))))))
 
         module _ (short : length (whole l u r) ≤ 2048) (d : ℕ) (deep : Deep (whole l u r) d) where
           -- 16

@@ -13,21 +13,21 @@ use Rattle.runs.specs.Performed.{Performed}
 use Rattle.runs.specs.declared.run.Run.{Run}
 use Rattle.runs.specs.declared.call.Call.{Call}
 use Rattle.runs.specs.declared.call.Lent.{Lent}
-use Rattle.runs.specs.declared.call.Answer.{Answer}
+use Rattle.runs.specs.Answers.{Answer}
 use Rattle.runs.specs.declared.call.Told.{Told}
 use Rattle.runs.specs.declared.call.Said.{Said}
 use Rattle.runs.proofs.Made.{Made, made_more, from_calls}
 
 -- a fresh run tells no cells
-no_cells : {C : Type 0} {G : Ghosts C} (run : Run C G) → ((table : List ℕ) → chain_of run table ≡ fresh) → run.cells ≡ 0
+no_cells : {C : Type 0} {G : Ghosts C} (run : Run C G) → ((table : List ℕ) → chain_of run table ≡ fresh) → run.told.cells ≡ 0
 no_cells run new =
-    let table = replicate run.cells 0 in
-    sym (length-take-le run.cells table (omega (arith, length-replicate {A = ℕ} run.cells 0))) ∙ ap (λ (c : Chain). length c.end) (new table)
+    let table = replicate run.told.cells 0 in
+    sym (length-take-le run.told.cells table (omega (arith, length-replicate {A = ℕ} run.told.cells 0))) ∙ ap (λ (c : Chain). length c.end) (new table)
 
 -- What the loop has come to on a fresh run: so many calls were made, and this was said to each.
 pub record Gone {C : Type 0} {G : Ghosts C} (mean : C → Meaning) (run : Run C G) (table scratch : List ℕ) (walk : List Walk) (calls : List Call) (i : ℕ) (said : List Said) (run₁ : Run C G) (table₁ : List ℕ) : Type 0 where
   pub calculus : run₁.calculus ≡ run.calculus
-  pub fits : run₁.cells ≤ length table₁
+  pub fits : run₁.told.cells ≤ length table₁
   pub made : Made (mean run.calculus) run table (map (event_of (lent_of table scratch walk)) (take i calls)) said run₁ table₁
 
 pub gone_none : {C : Type 0} {G : Ghosts C} (mean : C → Meaning) (run : Run C G) (table scratch : List ℕ) (walk : List Walk) (calls : List Call) (said : List Said) → ((u : List ℕ) → chain_of run u ≡ fresh) → said ≡ [] → Gone mean run table scratch walk calls 0 said run table
@@ -37,7 +37,7 @@ gone_none mean run table scratch walk calls said new none =
 
 -- one call more
 module _ {C : Type 0} {G : Ghosts C} (mean : C → Meaning) (run run₁ run₂ : Run C G) (table table₁ table₂ scratch scratch₁ : List ℕ) (walk walk₁ : List Walk) (calls : List Call) (i : ℕ) (d : Call) (said : List Said) (answer : Answer) (tells : Told) (g : Gone mean run table scratch walk calls i said run₁ table₁) where
-  pub gone_more : length table₁ ≡ length table → length scratch₁ ≡ length scratch → length walk₁ ≡ length walk → length table₂ ≡ length table₁ → i < length calls → Performed (mean run₁.calculus) run₁ run₂ table₁ table₂ (event_of (lent_of table₁ scratch₁ walk₁) (get_or calls i d)) answer → ((u : List ℕ) → run₂.cells ≤ length u → tells ≡ told (chain_of run₂ u)) → Gone mean run table scratch walk calls (i + 1) (said ++ (record { answer = answer; tells = tells } ∷ [])) run₂ table₂
+  pub gone_more : length table₁ ≡ length table → length scratch₁ ≡ length scratch → length walk₁ ≡ length walk → length table₂ ≡ length table₁ → i < length calls → Performed (mean run₁.calculus) run₁ run₂ table₁ table₂ (event_of (lent_of table₁ scratch₁ walk₁) (get_or calls i d)) answer → ((u : List ℕ) → run₂.told.cells ≤ length u → tells ≡ told (chain_of run₂ u)) → Gone mean run table scratch walk calls (i + 1) (said ++ (record { answer = answer; tells = tells } ∷ [])) run₂ table₂
   gone_more t-kept s-kept w_kept kept within p tell =
       let f = event_of (lent_of table scratch walk) in
       let e = get_or calls i d in
@@ -45,7 +45,7 @@ module _ {C : Type 0} {G : Ghosts C} (mean : C → Meaning) (run run₁ run₂ :
       let lents : lent_of table₁ scratch₁ walk₁ ≡ lent_of table scratch walk = λ j. record { table = t-kept j; scratch = s-kept j; walk = w_kept j } in
       let here = subst (λ (l : Lent). Called (mean run₁.calculus) run₁ run₂ table₁ table₂ (event_of l e) answer) lents p.called in
       let called = subst (λ k. Called (mean k) run₁ run₂ table₁ table₂ (f e) answer) g.calculus here in
-      let fits : run₂.cells ≤ length table₂ = omega (arith, p.fits g.fits, kept) in
+      let fits : run₂.told.cells ≤ length table₂ = omega (arith, p.fits g.fits, kept) in
       let events : map f (take i calls) ++ (f e ∷ []) ≡ map f (take (i + 1) calls) = sym (map_more f calls i d within) in
       record {
         calculus = p.called.calculus ∙ g.calculus;

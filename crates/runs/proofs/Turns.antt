@@ -1,5 +1,5 @@
 -- A chain has one turn for each call, and a run whose table is held turns as the chain does. Assumes nothing.
-use Rattle.std.proofs.Common.{◌≡◌, ℕ, ◌<◌, ◌↔◌, List, [], ◌∷◌, get_or, take, sym, refl, ap, ◌∙◌, subst, inl, inr, get_or-take}
+use Rattle.std.proofs.Common.{◌≡◌, ℕ, ◌<◌, ◌↔◌, List, [], ◌∷◌, get_or, take, sym, refl, ap, ◌∙◌, subst, inl, inr, get_or-take, Ok, Err}
 use Rattle.terms.specs.Terms.{Laid}
 use Rattle.terms.specs.Places.{whole}
 use Rattle.terms.proofs.Unique.{one_part, order}
@@ -12,8 +12,8 @@ use Rattle.runs.specs.declared.call.State.TheVariants.{Open}
 use Rattle.runs.specs.declared.call.Lent.{Lent}
 use Rattle.runs.specs.declared.call.Settlement.{Settlement}
 use Rattle.runs.specs.declared.call.Settlement.TheVariants.{Reached, Differs}
-use Rattle.runs.specs.declared.call.Answer.{Answer}
-use Rattle.runs.specs.declared.call.Answer.TheVariants.{Opened, Stepped, Settled, Withdrawn, Refused}
+use Rattle.runs.specs.Answers.{Answer}
+use Rattle.runs.specs.declared.call.Done.TheVariants.{Stepped, Settled}
 use Rattle.runs.specs.declared.refusal.Refusal.{Refusal}
 use Rattle.runs.proofs.Decided.{yes_no, one_no, all_decided}
 
@@ -44,7 +44,7 @@ module _ (m : Meaning) (laws : Laws m) (c : Chain) where
       (p.0 ∙ sym q.0, p.1.2 ∙ ap (moved c) f ∙ sym q.1.2)
   one_acceptance (settling ticket claim lent) a b c₁ c₂ p q =
       let f = one_settlement claim c.end p.0.0 q.0.0 p.0.2 q.0.2 in
-      (p.0.1 ∙ ap Settled f ∙ sym q.0.1, p.1 ∙ sym q.1)
+      (p.0.1 ∙ ap (λ (v : Settlement). Ok (Settled v)) f ∙ sym q.0.1, p.1 ∙ sym q.1)
   one_acceptance (withdrawing ticket) a b c₁ c₂ p q = (p.0 ∙ sym q.0, p.1 ∙ sym q.1)
 
   -- a call has one answer, and the chain goes one way
@@ -53,7 +53,7 @@ module _ (m : Meaning) (laws : Laws m) (c : Chain) where
   one_turn e a b c₁ c₂ (accepted y p) (refused r f g h) = absurd (yes_no (questions m c [] e) r (all_decided m laws c [] e tt) y f)
   one_turn e a b c₁ c₂ (refused r f g h) (accepted y p) = absurd (yes_no (questions m c [] e) r (all_decided m laws c [] e tt) y f)
   one_turn e a b c₁ c₂ (refused r f g h) (refused s f' g' h') =
-      (g ∙ ap Refused (one_no (questions m c [] e) r s (all_decided m laws c [] e tt) f f') ∙ sym g', h ∙ sym h')
+      (g ∙ ap Err (one_no (questions m c [] e) r s (all_decided m laws c [] e tt) f f') ∙ sym g', h ∙ sym h')
 
 -- where 7 is yes of an open run, the run turns as the chain does
 module _ (m : Meaning) (c : Chain) (yes : c.state ≡ Open → Laid c.end × m.lawful c.end) where
@@ -81,29 +81,15 @@ module _ (m : Meaning) (c : Chain) (yes : c.state ≡ Open → Laid c.end × m.l
   as_chain e a c' (refused r f g h) = refused r (first_but_seven e r f) g h
 
 -- An open chain with enough memory accepts a step exactly when it leads from the end to a term.
-abbrev pub IsRefused : Answer → Type 0
-IsRefused (Opened n) = ⊥
-IsRefused Stepped = ⊥
-IsRefused (Settled v) = ⊥
-IsRefused Withdrawn = ⊥
-IsRefused (Refused r) = Unit {0}
-
-abbrev which : Settlement → Answer → Settlement
-which d (Opened n) = d
-which d Stepped = d
-which d (Settled v) = v
-which d Withdrawn = d
-which d (Refused r) = d
-
 module _ (m : Meaning) (laws : Laws m) (c : Chain) where
-  pub accepts : (s : Step) (lent : Lent) (a : Answer) (c' : Chain) → Turn m c (stepping s lent) a c' → c.state ≡ Open → Enough lent → (a ≡ Stepped) ↔ ((to : List ℕ) × Leads m c.end s to)
+  pub accepts : (s : Step) (lent : Lent) (a : Answer) (c' : Chain) → Turn m c (stepping s lent) a c' → c.state ≡ Open → Enough lent → (a ≡ Ok Stepped) ↔ ((to : List ℕ) × Leads m c.end s to)
   accepts s lent a c' (accepted y p) o n = (λ _. (p.1.0, p.1.1), λ _. p.0)
   accepts s lent a c' (refused r f g h) o n =
-      (λ e. absurd (subst IsRefused (sym g ∙ e) tt), λ l. absurd (yes_no (questions m c [] (stepping s lent)) r (all_decided m laws c [] (stepping s lent) tt) (n, (o, l.1.yes)) f))
+      (λ e. let k : ◌≡◌ {A = Answer} (Err r) (Ok Stepped) = sym g ∙ e in absurd (cc), λ l. absurd (yes_no (questions m c [] (stepping s lent)) r (all_decided m laws c [] (stepping s lent) tt) (n, (o, l.1.yes)) f))
 
   -- An accepted settlement says reached exactly when the claim is the end.
-  pub settles : (ticket : ℕ) (claim : List ℕ) (lent : Lent) (v : Settlement) (c' : Chain) → Turn m c (settling ticket claim lent) (Settled v) c' → (v ≡ Reached) ↔ (claim ≡ c.end)
-  settles ticket claim lent v c' (refused r f g h) = absurd (subst IsRefused (sym g) tt)
+  pub settles : (ticket : ℕ) (claim : List ℕ) (lent : Lent) (v : Settlement) (c' : Chain) → Turn m c (settling ticket claim lent) (Ok (Settled v)) c' → (v ≡ Reached) ↔ (claim ≡ c.end)
+  settles ticket claim lent v c' (refused r f g h) = absurd (cc)
   settles ticket claim lent v c' (accepted y ((w, g, k), h)) =
-      let e : v ≡ w = ap (which v) g in
+      let e : v ≡ w = cc in
       (λ x. subst (Compared claim c.end) (sym e ∙ x) k, λ x. e ∙ one_settlement claim c.end w Reached k x)

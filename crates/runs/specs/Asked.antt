@@ -4,6 +4,8 @@ use Rattle.terms.specs.Terms.{Laid}
 use Rattle.calculus.specs.Meaning.{Meaning}
 use Rattle.runs.specs.Questions.{Question, asks, AllYes, FirstNo}
 use Rattle.runs.specs.Steps.{layout, lawful}
+use Rattle.runs.specs.declared.call.State.{State}
+use Rattle.runs.specs.declared.call.State.TheVariants.{Idle, Open}
 use Rattle.runs.specs.declared.refusal.Refusal.{Refusal}
 use Rattle.runs.specs.declared.refusal.Refusal.TheVariants as no
 
@@ -24,15 +26,17 @@ term_questions m cells = layout cells ∷ lawful m cells ∷ []
 abbrev pub held_question : Meaning → List ℕ → List (Question Refusal)
 held_question m cells = asks (Laid cells × m.lawful cells) no.Tampered ∷ []
 
--- 3, 4 and 5
-abbrev pub open_questions : Meaning → (openings : ℕ) (start : List ℕ) → List (Question Refusal)
-open_questions m openings start = asks (openings < 65535) no.Exhausted ∷ term_questions m start
+-- 2 to 5
+abbrev pub open_questions : Meaning → State → (openings : ℕ) (start : List ℕ) → List (Question Refusal)
+open_questions m state openings start =
+    asks (state ≡ Idle) no.NotIdle ∷ asks (openings < 65535) no.Exhausted ∷ term_questions m start
 
--- 17
-abbrev pub ticket_question : (number openings : ℕ) → List (Question Refusal)
-ticket_question number openings = asks (number ≡ openings) no.WrongTicket ∷ []
+-- 6 and 17
+abbrev pub withdraw_questions : State → (number openings : ℕ) → List (Question Refusal)
+withdraw_questions state number openings =
+    asks (state ≡ Open) no.NotOpen ∷ asks (number ≡ openings) no.WrongTicket ∷ []
 
--- 17, 7, and the claim's 4 and 5
-abbrev pub settle_questions : Meaning → (number openings : ℕ) (term claim : List ℕ) → List (Question Refusal)
-settle_questions m number openings term claim =
-    asks (number ≡ openings) no.WrongTicket ∷ asks (Laid term × m.lawful term) no.Tampered ∷ term_questions m claim
+-- 6, 17, 7, and the claim's 4 and 5
+abbrev pub settle_questions : Meaning → State → (number openings : ℕ) (term claim : List ℕ) → List (Question Refusal)
+settle_questions m state number openings term claim =
+    asks (state ≡ Open) no.NotOpen ∷ asks (number ≡ openings) no.WrongTicket ∷ asks (Laid term × m.lawful term) no.Tampered ∷ term_questions m claim

@@ -1,4 +1,7 @@
 pub mod Numbers
+pub mod Texts
+pub mod Faults
+pub mod Answers
 pub mod Questions
 pub mod Steps
 pub mod Chain

@@ -1,44 +1,38 @@
 // The questions about a whole term.
-ghost use Rattle.std.specs.Prelude.{◌≤◌, length};
 ghost use Rattle.runs.specs.Asked.{Asked, layout_question, term_questions, held_question};
 
 use crate::refusal::Refusal;
 use calculus::Calculus;
-use layout::{Fault, Walk, layout};
+use layout::{DEPTH_MOST, Walk, layout};
 
 // 4: do the cells keep the layout?
-pub fn kept(cells: &[u64], walk: &mut [Walk]) -> Result<(), Refusal>
-    requires { 256 ≤ length walk.old }
+pub fn kept(cells: &[u64], walk: &mut [Walk; DEPTH_MOST]) -> Result<(), Refusal>
     ensures { Asked (layout_question cells.now) result }
 {
-    match layout(cells, walk) {
-        Ok(_) => Ok(()),
-        Err(fault) => match fault {
-            Fault::Memory => Err(Refusal::Memory),
-            Fault::Cell(i) => Err(Refusal::Misshapen(i)),
-        },
-    }
+    layout(cells, walk)?;
+    Ok(())
 }
 
 // 4 and 5: do they keep the layout, and are they lawful?
-pub fn judged<C: Calculus>(calculus: &C, cells: &[u64], walk: &mut [Walk]) -> Result<(), Refusal>
-    requires { 256 ≤ length walk.old }
+pub fn judged<C: Calculus>(
+    calculus: &C,
+    cells: &[u64],
+    walk: &mut [Walk; DEPTH_MOST],
+) -> Result<(), Refusal>
     ensures { Asked (term_questions (C.Calculus.meaning calculus.now) cells.now) result }
 {
     kept(cells, walk)?;
-    match calculus.judge(cells) {
-        Ok(_) => Ok(()),
-        Err(i) => Err(Refusal::Unlawful(i)),
-    }
+    calculus.judge(cells).map_err(Refusal::Unlawful)?;
+    Ok(())
 }
 
 // 7: are they a lawful term that keeps the layout, whoever has changed them since?
-pub fn held<C: Calculus>(calculus: &C, cells: &[u64], walk: &mut [Walk]) -> Result<(), Refusal>
-    requires { 256 ≤ length walk.old }
+pub fn held<C: Calculus>(
+    calculus: &C,
+    cells: &[u64],
+    walk: &mut [Walk; DEPTH_MOST],
+) -> Result<(), Refusal>
     ensures { Asked (held_question (C.Calculus.meaning calculus.now) cells.now) result }
 {
-    match judged(calculus, cells, walk) {
-        Ok(()) => Ok(()),
-        Err(_) => Err(Refusal::Tampered),
-    }
+    judged(calculus, cells, walk).map_err(|_| Refusal::Tampered)
 }

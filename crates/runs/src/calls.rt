@@ -1,13 +1,14 @@
 // The calls of a run.
 ghost use Rattle.std.specs.Prelude.{◌≡◌, ℕ, ◌≤◌, List, length, Decides};
 ghost use Rattle.runs.specs.Chain.{fresh, Enough, told as tells_of};
-ghost use Rattle.runs.specs.Calls.{OpenAsked, StepAsked, SettleAsked, WithdrawAsked, chain_of, lent_of};
+ghost use Rattle.runs.specs.Rewriting.{step_of};
+ghost use Rattle.runs.specs.Calls.{OpenAsked, StepAsked, SettleAsked, WithdrawAsked, chain_of};
 
 use crate::call::{Settlement, State, Told};
 use crate::clean::Clean;
-use crate::event::Event;
 use crate::refusal::Refusal;
 use crate::run::Run;
+use crate::step::Step;
 use crate::table::{compare, put};
 use crate::ticket::Ticket;
 use calculus::Calculus;
@@ -28,23 +29,15 @@ impl<C: Calculus> Run<C> {
     {
         Run {
             calculus,
-            state: State::Idle,
-            openings: 0,
-            cells: 0,
-            steps: 0,
+            told: Told::default(),
         }
     }
 
     // State, openings, and the last opening's steps and cells.
     pub fn tell(&self) -> Told
-        ensures { (table : List ℕ) → self.now.cells ≤ length table → result ≡ tells_of (chain_of self.now table) }
+        ensures { (table : List ℕ) → self.now.told.cells ≤ length table → result ≡ tells_of (chain_of self.now table) }
     {
-        Told {
-            state: self.state,
-            openings: self.openings,
-            steps: self.steps,
-            cells: self.cells,
-        }
+        self.told
     }
 
     // 1 to 5: puts the start on the table, and hands out a ticket.
@@ -60,37 +53,39 @@ impl<C: Calculus> Run<C> {
         if !is_enough(table.len(), scratch.len(), walk.len()) {
             return Err(Refusal::Memory);
         }
-        let clean = Clean { cells: scratch };
-        self.turn(Event::Open(start), clean.cells, walk)?;
+        let _clean = Clean { cells: scratch };
+        self.may_open(start, walk.first_chunk_mut().unwrap())?;
+        self.told = Told {
+            state: State::Open,
+            openings: self.told.openings + 1,
+            steps: 0,
+            cells: start.len(),
+        };
         put(start, table);
-        let number = self.openings;
-        Ok(Ticket { number })
+        Ok(Ticket {
+            number: self.told.openings,
+        })
     }
 
     // 1, 6 to 16: takes a step on the table.
-    pub fn step<'s>(
+    pub fn step(
         &mut self,
-        rule: u8,
-        place: &'s [u8],
-        argument: u8,
-        inner: &'s [u8],
+        step: Step,
         table: &mut [u64],
         scratch: &mut [u64],
         walk: &mut [Walk],
     ) -> Result<(), Refusal>
-        ensures { StepAsked (C.Calculus.meaning self.old.calculus) self.old self.new (record { rule = rule; place = place.now; argument = argument; inner = inner.now }) table.old table.new scratch.old scratch.new walk.old walk.new result }
+        ensures { StepAsked (C.Calculus.meaning self.old.calculus) self.old self.new (step_of step.entry) table.old table.new scratch.old scratch.new walk.old walk.new result }
     {
         if !is_enough(table.len(), scratch.len(), walk.len()) {
             return Err(Refusal::Memory);
         }
         let clean = Clean { cells: scratch };
-        let term = &table[..self.cells];
-        self.turn(
-            Event::Step(rule, place, argument, inner, term),
-            clean.cells,
-            walk,
-        )?;
-        put(&clean.cells[..self.cells], table);
+        let space = clean.cells.first_chunk_mut().unwrap();
+        let term = &table[..self.told.cells];
+        self.told.cells = self.may_step(step, term, space, walk.first_chunk_mut().unwrap())?;
+        self.told.steps = self.told.steps.saturating_add(1);
+        put(&space[..self.told.cells], table);
         Ok(())
     }
 
@@ -108,10 +103,11 @@ impl<C: Calculus> Run<C> {
         if !is_enough(table.len(), scratch.len(), walk.len()) {
             return Err((Refusal::Memory, ticket));
         }
-        let clean = Clean { cells: scratch };
-        let term = &table[..self.cells];
-        match self.turn(Event::Settle(&ticket, claim, term), clean.cells, walk) {
+        let _clean = Clean { cells: scratch };
+        let term = &table[..self.told.cells];
+        match self.may_settle(&ticket, claim, term, walk.first_chunk_mut().unwrap()) {
             Ok(()) => {
+                self.told.state = State::Idle;
                 ticket.spend();
                 Ok(compare(claim, term))
             }
@@ -123,8 +119,9 @@ impl<C: Calculus> Run<C> {
     pub fn withdraw(&mut self, ticket: Ticket) -> Result<(), (Refusal, Ticket)>
         ensures { WithdrawAsked (C.Calculus.meaning self.old.calculus) self.old self.new ticket result }
     {
-        match self.turn(Event::Withdraw(&ticket), &mut [], &mut []) {
+        match self.may_withdraw(&ticket) {
             Ok(()) => {
+                self.told.state = State::Idle;
                 ticket.spend();
                 Ok(())
             }

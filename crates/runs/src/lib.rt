@@ -5,7 +5,6 @@ pub mod asking;
 pub mod call;
 pub mod calls;
 pub mod clean;
-pub mod event;
 pub mod refusal;
 pub mod replay;
 pub mod rewriting;

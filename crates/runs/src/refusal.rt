@@ -1,7 +1,15 @@
 // Why a call is refused: the question that says no, and the place told.
-ghost use Rattle.std.specs.Prelude.{◌≡◌};
+ghost use Rattle.std.specs.Prelude.{◌≡◌, Some};
 ghost use Rattle.runs.specs.Numbers.{number_of, place_of};
+ghost use Rattle.runs.specs.Texts.{refusal_text};
+ghost use Rattle.runs.specs.Faults.{refusal_of};
 
+use calculus::no::No;
+use layout::Fault;
+use std::error::Error;
+use std::fmt;
+
+// A calculus' own no comes with the redex's cell.
 #[derive(Clone, Copy, PartialEq, Eq, Debug)]
 pub enum Refusal {
     Memory,
@@ -13,12 +21,7 @@ pub enum Refusal {
     Tampered,
     NoChild(usize),
     NoSite(usize),
-    NoRule(usize),
-    Unfit(usize),
-    Formless(usize),
-    Barred(usize),
-    Oversum(usize),
-    Overlong(usize),
+    Calculus(No, usize),
     TooDeep(usize),
     WrongTicket,
 }
@@ -38,12 +41,7 @@ impl Refusal {
             Refusal::Tampered => 7,
             Refusal::NoChild(_) => 8,
             Refusal::NoSite(_) => 9,
-            Refusal::NoRule(_) => 10,
-            Refusal::Unfit(_) => 11,
-            Refusal::Formless(_) => 12,
-            Refusal::Barred(_) => 13,
-            Refusal::Oversum(_) => 14,
-            Refusal::Overlong(_) => 15,
+            Refusal::Calculus(no, _) => no.number(),
             Refusal::TooDeep(_) => 16,
             Refusal::WrongTicket => 17,
         }
@@ -54,23 +52,39 @@ impl Refusal {
         ensures { result ≡ place_of self }
     {
         match self {
-            Refusal::Misshapen(i) => i,
-            Refusal::Unlawful(i) => i,
-            Refusal::NoChild(i) => i,
-            Refusal::NoSite(i) => i,
-            Refusal::NoRule(i) => i,
-            Refusal::Unfit(i) => i,
-            Refusal::Formless(i) => i,
-            Refusal::Barred(i) => i,
-            Refusal::Oversum(i) => i,
-            Refusal::Overlong(i) => i,
-            Refusal::TooDeep(i) => i,
-            Refusal::Memory => 0,
-            Refusal::NotIdle => 0,
-            Refusal::Exhausted => 0,
-            Refusal::NotOpen => 0,
-            Refusal::Tampered => 0,
-            Refusal::WrongTicket => 0,
+            Refusal::Misshapen(i)
+            | Refusal::Unlawful(i)
+            | Refusal::NoChild(i)
+            | Refusal::NoSite(i)
+            | Refusal::Calculus(_, i)
+            | Refusal::TooDeep(i) => i,
+            Refusal::Memory
+            | Refusal::NotIdle
+            | Refusal::Exhausted
+            | Refusal::NotOpen
+            | Refusal::Tampered
+            | Refusal::WrongTicket => 0,
         }
     }
 }
+
+impl From<Fault> for Refusal {
+    ghost from_gives = { λ fault r. r ≡ refusal_of fault };
+
+    fn from(fault: Fault) -> Refusal {
+        match fault {
+            Fault::Memory => Refusal::Memory,
+            Fault::Cell(i) => Refusal::Misshapen(i),
+        }
+    }
+}
+
+impl fmt::Display for Refusal {
+    ghost output = { λ r. Some (refusal_text r) };
+
+    fn fmt<W: fmt::Write>(&self, f: &mut fmt::Formatter<W>) -> fmt::Result {
+        write!(f, "no {} {}", self.number(), self.place())
+    }
+}
+
+impl Error for Refusal {}

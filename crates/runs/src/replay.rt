@@ -2,17 +2,31 @@
 ghost use Rattle.std.specs.Prelude.{◌≡◌, length, replicate, Ok, Err};
 ghost use Rattle.runs.specs.Chain.{withdrawing};
 ghost use Rattle.runs.specs.Theorem.{Replayed, Part};
-ghost use Rattle.runs.specs.Calls.{event_of, events_of, lent_of};
+ghost use Rattle.runs.specs.Calls.{event_of, events_of, handed, lent_of};
 ghost use Rattle.runs.specs.Performed.{Performed};
 
-use crate::call::{Answer, Call, Lent, Said};
+use crate::call::{Call, Done, Lent, Said};
 use crate::clean::Clean;
+use crate::refusal::Refusal;
 use crate::run::Run;
+use crate::step::Step;
 use crate::ticket::Ticket;
 use calculus::Calculus;
 use layout::Walk;
 use std::alloc::{AllocError, Global};
 
+// What a call is handed of the memory there is.
+fn clipped(lent: Lent, table: &[u64], scratch: &[u64], walk: &[Walk]) -> Lent
+    ensures { result ≡ handed (lent_of table.now scratch.now walk.now) lent }
+{
+    Lent {
+        table: lent.table.min(table.len()),
+        scratch: lent.scratch.min(scratch.len()),
+        walk: lent.walk.min(walk.len()),
+    }
+}
+
+// Table, scratch and walk list stay three parameters: a struct of three `&mut` would ask for a clause on the length and the loan of each in every function, and settlement only reads the table.
 // Makes an opening with what it is handed of the memory, and spends the ticket: later calls name theirs by number.
 fn make_opening<C: Calculus>(
     run: &mut Run<C>,
@@ -21,47 +35,47 @@ fn make_opening<C: Calculus>(
     table: &mut [u64],
     scratch: &mut [u64],
     walk: &mut [Walk],
-) -> Answer
+) -> Result<Done, Refusal>
     ensures { Performed (C.Calculus.meaning run.old.calculus) run.old run.new table.old table.new (event_of (lent_of table.old scratch.old walk.old) (Call.Open start.entry lent)) result }
 {
-    let t = lent.table.min(table.len());
-    let s = lent.scratch.min(scratch.len());
-    let w = lent.walk.min(walk.len());
-    match run.open(start, &mut table[..t], &mut scratch[..s], &mut walk[..w]) {
-        Ok(ticket) => Answer::Opened(ticket.spend()),
-        Err(refusal) => Answer::Refused(refusal),
-    }
+    let l = clipped(lent, table, scratch, walk);
+    let ticket = run.open(
+        start,
+        &mut table[..l.table],
+        &mut scratch[..l.scratch],
+        &mut walk[..l.walk],
+    )?;
+    Ok(Done::Opened(ticket.spend()))
 }
 
 // Makes a step so.
-fn make_step<'s, C: Calculus>(
+fn make_step<C: Calculus>(
     run: &mut Run<C>,
-    rule: u8,
-    place: &'s [u8],
-    argument: u8,
-    inner: &'s [u8],
+    step: Step,
     lent: Lent,
     table: &mut [u64],
     scratch: &mut [u64],
     walk: &mut [Walk],
-) -> Answer
-    ensures { Performed (C.Calculus.meaning run.old.calculus) run.old run.new table.old table.new (event_of (lent_of table.old scratch.old walk.old) (Call.Step rule place.entry argument inner.entry lent)) result }
+) -> Result<Done, Refusal>
+    ensures { Performed (C.Calculus.meaning run.old.calculus) run.old run.new table.old table.new (event_of (lent_of table.old scratch.old walk.old) (Call.Step step.entry lent)) result }
 {
-    let t = lent.table.min(table.len());
-    let s = lent.scratch.min(scratch.len());
-    let w = lent.walk.min(walk.len());
-    match run.step(
-        rule,
-        place,
-        argument,
-        inner,
-        &mut table[..t],
-        &mut scratch[..s],
-        &mut walk[..w],
-    ) {
-        Ok(()) => Answer::Stepped,
-        Err(refusal) => Answer::Refused(refusal),
-    }
+    let l = clipped(lent, table, scratch, walk);
+    run.step(
+        step,
+        &mut table[..l.table],
+        &mut scratch[..l.scratch],
+        &mut walk[..l.walk],
+    )?;
+    Ok(Done::Stepped)
+}
+
+// Spends the ticket that a refused call hands back.
+fn spent(back: (Refusal, Ticket)) -> Refusal
+    ensures { result ≡ back.0 }
+{
+    let (refusal, ticket) = back;
+    ticket.spend();
+    refusal
 }
 
 // Makes a settlement so, with a ticket of the number that is named.
@@ -73,38 +87,32 @@ fn make_settlement<'s, C: Calculus>(
     table: &'s [u64],
     scratch: &mut [u64],
     walk: &mut [Walk],
-) -> Answer
+) -> Result<Done, Refusal>
     ensures { Performed (C.Calculus.meaning run.old.calculus) run.old run.new table.now table.now (event_of (lent_of table.now scratch.old walk.old) (Call.Settle number claim.entry lent)) result }
 {
-    let t = lent.table.min(table.len());
-    let s = lent.scratch.min(scratch.len());
-    let w = lent.walk.min(walk.len());
-    match run.settle(
-        Ticket { number },
-        claim,
-        &table[..t],
-        &mut scratch[..s],
-        &mut walk[..w],
-    ) {
-        Ok(settlement) => Answer::Settled(settlement),
-        Err((refusal, ticket)) => {
-            ticket.spend();
-            Answer::Refused(refusal)
-        }
-    }
+    let l = clipped(lent, table, scratch, walk);
+    let settlement = run
+        .settle(
+            Ticket { number },
+            claim,
+            &table[..l.table],
+            &mut scratch[..l.scratch],
+            &mut walk[..l.walk],
+        )
+        .map_err(spent)?;
+    Ok(Done::Settled(settlement))
 }
 
 // Makes a withdrawal so.
-fn make_withdrawal<C: Calculus>(run: &mut Run<C>, number: u16, table: &[u64]) -> Answer
+fn make_withdrawal<C: Calculus>(
+    run: &mut Run<C>,
+    number: u16,
+    table: &[u64],
+) -> Result<Done, Refusal>
     ensures { Performed (C.Calculus.meaning run.old.calculus) run.old run.new table.now table.now (withdrawing number) result }
 {
-    match run.withdraw(Ticket { number }) {
-        Ok(()) => Answer::Withdrawn,
-        Err((refusal, ticket)) => {
-            ticket.spend();
-            Answer::Refused(refusal)
-        }
-    }
+    run.withdraw(Ticket { number }).map_err(spent)?;
+    Ok(Done::Withdrawn)
 }
 
 // Makes a call.
@@ -114,14 +122,12 @@ fn make<C: Calculus>(
     table: &mut [u64],
     scratch: &mut [u64],
     walk: &mut [Walk],
-) -> Answer
+) -> Result<Done, Refusal>
     ensures { Performed (C.Calculus.meaning run.old.calculus) run.old run.new table.old table.new (event_of (lent_of table.old scratch.old walk.old) call.entry) result }
 {
     match call {
         Call::Open(start, lent) => make_opening(run, start, lent, table, scratch, walk),
-        Call::Step(rule, place, argument, inner, lent) => make_step(
-            run, rule, place, argument, inner, lent, table, scratch, walk,
-        ),
+        Call::Step(step, lent) => make_step(run, step, lent, table, scratch, walk),
         Call::Settle(number, claim, lent) => make_settlement(
             run, number, claim, lent, table, scratch, walk,
         ),

@@ -24,10 +24,12 @@ pub fn compare(claim: &[u64], term: &[u64]) -> Settlement
     requires term { Laid term.now }
     ensures { Compared claim.now term.now result }
 {
-    for (i, cell) in term.iter().enumerate() {
-        if *cell != claim[i] {
-            return Settlement::Differs(i);
-        }
+    match term
+        .iter()
+        .zip(claim)
+        .position(|(cell, other)| cell != other)
+    {
+        Some(i) => Settlement::Differs(i),
+        None => Settlement::Reached,
     }
-    Settlement::Reached
 }

@@ -1,23 +1,15 @@
-use Rattle.std.proofs.Common.{◌≡◌, get_or, arith}
-use Rattle.std.proofs.lemmas.List.{take_more_same}
-use Rattle.runs.proofs.Tables.{goes_on, no_difference}
+use Rattle.std.proofs.Common.{◌≡◌, ℕ, ◌≢◌, rules}
+use borrow.Author.Tests.{tests}
+use Rattle.std.proofs.lemmas.Iterator.{IsFirst-from_position, YieldsList-from_slice, YieldsList-from_zip}
+use Rattle.runs.proofs.Tables.{differ_at, none_differs}
 use Rattle.runs.proofs.table.compare.Goals as goal
 
-pub bounds-claim-i : goal.bounds-claim-i
-bounds-claim-i c =
-    goes_on c.args.claim.now c.args.term.now c.requires.claim c.requires.term c.loop-i.i c.loop-i.invariant (omega arith)
+pub returns-in-Some : goal.returns-in-Some
+returns-in-Some c =
+    let h = IsFirst-from_position c.position.new.self _ c.position.result (λ (p : ℕ × ℕ). p.0 ≢ p.1) (λ (p : ℕ × ℕ). p.0 ≡ p.1) c.position.ensures.ran (YieldsList-from_zip (YieldsList-from_slice c.args.term.now cc) (YieldsList-from_slice c.args.claim.now cc)) (λ x q k. search (rules, tests)) (λ x q k. search (rules, tests)) in
+    differ_at c.args.claim.now c.args.term.now c.requires.claim c.requires.term c.in-Some.i (rw c.in-Some.is at h)
 
-pub returns-then-cell-claim : goal.returns-then-cell-claim
-returns-then-cell-claim c =
-    let in_claim = goes_on c.args.claim.now c.args.term.now c.requires.claim c.requires.term c.loop-i.i c.loop-i.invariant (omega arith) in
-    record { in_claim = in_claim; in_end = omega arith; same = c.loop-i.invariant; other = λ e. omega (arith, e) }
-
-pub loop-i-preserved : goal.loop-i-preserved
-loop-i-preserved c =
-    let in_claim = goes_on c.args.claim.now c.args.term.now c.requires.claim c.requires.term c.loop-i.i c.loop-i.invariant (omega arith) in
-    let e : get_or c.args.claim.now c.loop-i.i 0 ≡ get_or c.args.term.now c.loop-i.i 0 = omega arith in
-    take_more_same c.args.claim.now c.args.term.now c.loop-i.i 0 in_claim (omega arith) c.loop-i.invariant e
-
-pub returns : goal.returns
-returns c =
-    no_difference c.args.claim.now c.args.term.now c.requires.claim c.requires.term c.loop-i.i c.loop-i.invariant (omega arith)
+pub returns-in-None : goal.returns-in-None
+returns-in-None c =
+    let h = IsFirst-from_position c.position.new.self _ c.position.result (λ (p : ℕ × ℕ). p.0 ≢ p.1) (λ (p : ℕ × ℕ). p.0 ≡ p.1) c.position.ensures.ran (YieldsList-from_zip (YieldsList-from_slice c.args.term.now cc) (YieldsList-from_slice c.args.claim.now cc)) (λ x q k. search (rules, tests)) (λ x q k. search (rules, tests)) in
+    none_differs c.args.claim.now c.args.term.now c.requires.claim c.requires.term (rw c.in-None.is at h)

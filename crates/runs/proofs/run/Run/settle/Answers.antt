@@ -1,7 +1,7 @@
 use Rattle.std.proofs.Common.{◌≡◌, length, replicate, rules}
 use Rattle.runs.specs.Chain.{Enough}
 use Rattle.runs.specs.Calls.{lent_of}
-use Rattle.runs.proofs.Calling.{settle_at_1, settle_refused, settle_accepted}
+use Rattle.runs.proofs.Calling.{settle_at_1, settle_refused}
 use Rattle.runs.proofs.run.Run.settle.Goals as goal
 
 pub returns-then-not-is_enough : goal.returns-then-not-is_enough
@@ -9,23 +9,8 @@ returns-then-not-is_enough g c =
     let little : Enough (lent_of c.args.table.now c.args.scratch.now c.args.walk.now) → ⊥ = search rules in
     settle_at_1 (g.C.Calculus.meaning c.args.self.now.calculus) c.args.self.now c.args.table.now c.args.scratch.now c.args.walk.now little c.args.ticket c.args.claim.now
 
-pub compare-requires : goal.compare-requires
-compare-requires g c =
-    let h = c.in-Ok.ensures in
-    let enough : Enough (lent_of c.args.table.now c.args.scratch.now c.args.walk.now) = search rules in
-    let y = h.0 (lent_of c.args.table.now c.args.scratch.now c.args.walk.now) enough in
-    record { claim = y.1.1.1.1.0; term = y.1.1.1.0.0 }
-
-pub returns-in-Ok : goal.returns-in-Ok
-returns-in-Ok g c =
-    let enough : Enough (lent_of c.args.table.now c.args.scratch.now c.args.walk.now) = search rules in
-    let zeros : c.drop-clean.new.self.0 ≡ replicate (length c.args.scratch.now) 0 = search rules in
-    let h = c.in-Ok.ensures in
-    settle_accepted (g.C.Calculus.meaning c.args.self.now.calculus) c.args.self.now c.turn.new.self c.args.table.now c.args.scratch.now c.drop-clean.new.self.0 c.args.walk.now c.turn.new.walk enough zeros c.args.ticket c.args.claim.now c.compare.result h.0 h.1 c.compare.ensures
-
 pub returns : goal.returns
 returns g c =
     let enough : Enough (lent_of c.args.table.now c.args.scratch.now c.args.walk.now) = search rules in
     let zeros : c.drop-clean-2.new.self.0 ≡ replicate (length c.args.scratch.now) 0 = search rules in
-    let h = c.in-Err.ensures in
-    settle_refused (g.C.Calculus.meaning c.args.self.now.calculus) c.args.self.now c.turn.new.self c.args.table.now c.args.scratch.now c.drop-clean-2.new.self.0 c.args.walk.now c.turn.new.walk enough zeros c.args.ticket c.args.claim.now c.in-Err.refusal h.0 h.1
+    settle_refused (g.C.Calculus.meaning c.args.self.now.calculus) c.args.self.now c.args.table.now c.args.scratch.now c.drop-clean-2.new.self.0 c.args.walk.now _ enough zeros c.args.ticket c.args.claim.now c.in-Err.refusal c.in-Err.ensures
