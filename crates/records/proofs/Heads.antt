@@ -1,13 +1,25 @@
 -- A step stands at the front of bytes exactly when they are as many as its head says. Assumes nothing.
-use Rattle.std.proofs.Common.{◌≡◌, ℕ, suc, ◌+◌, ◌-◌, ◌*◌, ◌/◌, ◌%◌, ◌^◌, ◌<◌, ◌≤◌, List, [], ◌∷◌, ◌++◌, length, get_or, take, drop, replicate, sym, refl, ap, ◌∙◌, subst, append_assoc, append-nil, arith, length-append, length-drop, take-append-drop, length-take}
+use Rattle.std.proofs.Common.{◌≡◌, ℕ, suc, ◌+◌, ◌-◌, ◌*◌, ◌/◌, ◌%◌, ◌^◌, ◌<◌, ◌≤◌, List, [], ◌∷◌, ◌++◌, length, get_or, take, drop, replicate, sym, refl, ap, ◌∙◌, subst, append_assoc, append-nil, arith, length-append, length-drop, take-append-drop, length-take, w32}
 use lib.ListN.{length-replicate}
-use Rattle.std.proofs.lemmas.List.{drop_more, drop-drop, drop_all}
+use Rattle.std.proofs.lemmas.List.{drop_more, drop-drop, drop_all, get_or-take}
 use Rattle.terms.specs.Lists.{All}
 use Rattle.cell_bytes.specs.Holding.{Lacking}
 use Rattle.cell_bytes.proofs.Fills.{Bytes, bytes_drop, bytes_take, bytes_padded, get_or_padded}
 use Rattle.runs.specs.Steps.{Step}
 use Rattle.records.specs.Records.{head_of, spell_step, Spelt}
-use Rattle.records.specs.Reading.{leading, Stands}
+use Rattle.records.specs.Reading.{Stands}
+use Rattle.std.specs.Int.{from_be_bytes}
+use Rattle.std.specs.List.{IsSplitAt}
+
+-- the number that the first four bytes make
+abbrev pub leading : List ℕ → ℕ
+leading l = get_or l 0 0 * 2 ^ 24 + get_or l 1 0 * 2 ^ 16 + get_or l 2 0 * 2 ^ 8 + get_or l 3 0
+
+pub leading_is : (l first : List ℕ) (n : ℕ) → first ≡ take 4 l → n ≡ from_be_bytes w32 first → n ≡ leading l
+leading_is l first n e f = omega (arith, f, at 0 (omega arith), at 1 (omega arith), at 2 (omega arith), at 3 (omega arith))
+  where
+    at : (k : ℕ) → k < 4 → get_or first k 0 ≡ get_or l k 0
+    at k h = ap (λ t. get_or t k 0) e ∙ get_or-take 4 l k 0 h
 
 -- what a head says: the lengths of place and inner place, and of the step
 abbrev pub places : List ℕ → ℕ
@@ -106,50 +118,39 @@ lacks l b h =
       is = refl;
     }
 
--- the step at a place
-pub stands_at : (bytes : List ℕ) (at end : ℕ) (s : Step) → Bytes bytes → size (drop at bytes) ≤ length (drop at bytes) → s ≡ front (drop at bytes) → end ≡ at + size (drop at bytes) → Stands bytes at s end
-stands_at bytes at end s b h e f =
-    let l = drop at bytes in
-    let fit = bytes_drop at bytes b in
-    let rest : drop (size l) l ≡ drop end bytes = drop-drop (size l) at bytes ∙ ap (λ n. drop n bytes) (sym f) in
-    record {
-      spelt = subst Spelt (sym e) (front_spelt l fit h);
-      reads = front_reads l fit h ∙ ap (λ t. spell_step (front l) ++ t) rest ∙ ap (λ x. spell_step x ++ drop end bytes) (sym e);
-      ends = f ∙ ap (λ n. at + n) (sym (front_long l fit h)) ∙ ap (λ x. at + length (spell_step x)) (sym e);
-    }
-
-far_end : (at p i from mid p' i' : ℕ) → p' ≡ p → i' ≡ i → from ≡ at + 4 → mid ≡ from + p' → mid + i' ≡ at + (4 + p + i)
-far_end at p i from mid p' i' a b c d = omega arith
-
-middle : (at p from p' : ℕ) → p' ≡ p → from ≡ at + 4 → from + p' ≡ at + (4 + p)
-middle at p from p' a b = omega arith
-
-less : (n m k : ℕ) → n ≡ m + k → n - m ≡ k
-less n m k e = omega arith
-
-room : (n at end all : ℕ) → end ≡ at + n → end ≤ all → n ≤ all - at
-room n at end all e h = omega arith
-
--- the same by the head's number, with the entries cut out of the bytes
-pub stands_cut : (bytes : List ℕ) (at h : ℕ) → Bytes bytes → h ≡ leading (drop at bytes) → at + 4 ≤ length bytes → (from mid end : ℕ) → from ≡ at + 4 → mid ≡ from + h / 2 ^ 17 % 512 → end ≡ mid + h / 2 ^ 8 % 512 → end ≤ length bytes →
-    (s : Step) → s.rule ≡ h / 2 ^ 26 → s.argument ≡ h % 256 → s.place ≡ take (mid - from) (drop from bytes) → s.inner ≡ take (end - mid) (drop mid bytes) → Stands bytes at s end
-stands_cut bytes at h b e k from mid end e₁ e₂ e₃ le s rule argument place inner =
-    let l = drop at bytes in
+-- the same by the head's number, with the entries split off the bytes behind it
+pub stands_cut : (l : List ℕ) → Bytes l → (h : ℕ) → h ≡ leading l → 4 ≤ length l → (s : Step) (behind mid rest : List ℕ) → behind ≡ drop 4 l → s.rule ≡ h / 2 ^ 26 → s.argument ≡ h % 256 →
+    IsSplitAt behind (h / 2 ^ 17 % 512) s.place mid → IsSplitAt mid (h / 2 ^ 8 % 512) s.inner rest → Stands l s rest
+stands_cut l b h e four_are s behind mid rest is_behind rule argument first second =
     let p : h / 2 ^ 17 % 512 ≡ places l = ap (λ n. n / 2 ^ 17 % 512) e in
     let i : h / 2 ^ 8 % 512 ≡ inners l = ap (λ n. n / 2 ^ 8 % 512) e in
-    let far : end ≡ at + size l = e₃ ∙ far_end at (places l) (inners l) from mid (h / 2 ^ 17 % 512) (h / 2 ^ 8 % 512) p i e₁ e₂ in
-    let long : size l ≤ length l = simp length-drop (room (size l) at end (length bytes) far le) in
-    let place_is : take (mid - from) (drop from bytes) ≡ take (places l) (drop 4 l) = ap (λ n. take n (drop from bytes)) (less mid from (h / 2 ^ 17 % 512) e₂ ∙ p) ∙ ap (take (places l)) (ap (λ n. drop n bytes) e₁ ∙ sym (drop-drop 4 at bytes)) in
-    let inner_is : take (end - mid) (drop mid bytes) ≡ take (inners l) (drop (4 + places l) l) = ap (λ n. take n (drop mid bytes)) (less end mid (h / 2 ^ 8 % 512) e₃ ∙ i) ∙ ap (take (inners l)) (ap (λ n. drop n bytes) (e₂ ∙ middle at (places l) from (h / 2 ^ 17 % 512) p e₁) ∙ sym (drop-drop (4 + places l) at bytes)) in
-    stands_at bytes at end s b long (same (rule ∙ ap (λ n. n / 2 ^ 26) e) (place ∙ place_is) (argument ∙ ap (λ n. n % 256) e) (inner ∙ inner_is)) far
+    let mid_is : mid ≡ drop (4 + places l) l = first.2 ∙ ap (λ n. drop n behind) p ∙ ap (drop (places l)) is_behind ∙ drop-drop (places l) 4 l in
+    let place_is : s.place ≡ take (places l) (drop 4 l) = first.1 ∙ ap (λ n. take n behind) p ∙ ap (take (places l)) is_behind in
+    let inner_is : s.inner ≡ take (inners l) (drop (4 + places l) l) = second.1 ∙ ap (λ n. take n mid) i ∙ ap (take (inners l)) mid_is in
+    let rest_is : rest ≡ drop (size l) l = second.2 ∙ ap (λ n. drop n mid) i ∙ ap (drop (inners l)) mid_is ∙ drop-drop (inners l) (4 + places l) l in
+    let fits : size l ≤ length l = room (length l) (length behind) (length mid) _ _ _ _ p i four_are (ap length is_behind ∙ length-drop 4 l) first.4 first.0 second.0 in
+    let is : s ≡ front l = same (rule ∙ ap (λ n. n / 2 ^ 26) e) place_is (argument ∙ ap (λ n. n % 256) e) inner_is in
+    record {
+      spelt = subst Spelt (sym is) (front_spelt l b fits);
+      reads = front_reads l b fits ∙ ap (λ t. spell_step (front l) ++ t) (sym rest_is) ∙ ap (λ x. spell_step x ++ rest) (sym is);
+    }
   where
     same : {s t : Step} → s.rule ≡ t.rule → s.place ≡ t.place → s.argument ≡ t.argument → s.inner ≡ t.inner → s ≡ t
     same e f g h = λ i. record { rule = e i; place = f i; argument = g i; inner = h i }
 
-short : (at p i p' i' all : ℕ) → p' ≡ p → i' ≡ i → at + 4 ≤ all → all < at + 4 + p' + i' → all - at < 4 + p + i
-short at p i p' i' all a b c d = omega arith
+    room : (all behind middle p' p i' i : ℕ) → p' ≡ p → i' ≡ i → 4 ≤ all → behind ≡ all - 4 → middle + p' ≡ behind → p' ≤ behind → i' ≤ middle → 4 + p + i ≤ all
+    room all behind middle p' p i' i a b c d e f g = omega arith
 
--- fewer bytes than its head's number says
-pub cut_short : (bytes : List ℕ) (at h : ℕ) → h ≡ leading (drop at bytes) → at + 4 ≤ length bytes → length bytes < at + 4 + h / 2 ^ 17 % 512 + h / 2 ^ 8 % 512 → length (drop at bytes) < size (drop at bytes)
-cut_short bytes at h e k le =
-    simp length-drop (short at _ _ _ _ (length bytes) (ap (λ n. n / 2 ^ 17 % 512) e) (ap (λ n. n / 2 ^ 8 % 512) e) k le)
+-- fewer bytes than its head's number says: the place's entries do not fit, or the inner place's
+pub place_lacks : (l : List ℕ) (h : ℕ) → h ≡ leading l → (behind : List ℕ) → behind ≡ drop 4 l → length behind < h / 2 ^ 17 % 512 → length l < size l
+place_lacks l h e behind b few = short (length l) (length behind) _ _ (inners l) (ap (λ n. n / 2 ^ 17 % 512) e) (ap length b ∙ length-drop 4 l) few
+  where
+    short : (all behind p' p i : ℕ) → p' ≡ p → behind ≡ all - 4 → behind < p' → all < 4 + p + i
+    short all behind p' p i a b c = omega arith
+
+pub inner_lacks : (l : List ℕ) (h : ℕ) → h ≡ leading l → (behind : List ℕ) → behind ≡ drop 4 l → (place mid : List ℕ) → IsSplitAt behind (h / 2 ^ 17 % 512) place mid → length mid < h / 2 ^ 8 % 512 → length l < size l
+inner_lacks l h e behind b place mid first few =
+    short (length l) (length behind) (length mid) _ _ _ _ (ap (λ n. n / 2 ^ 17 % 512) e) (ap (λ n. n / 2 ^ 8 % 512) e) (ap length b ∙ length-drop 4 l) first.4 few
+  where
+    short : (all behind middle p' p i' i : ℕ) → p' ≡ p → i' ≡ i → behind ≡ all - 4 → middle + p' ≡ behind → middle < i' → all < 4 + p + i
+    short all behind middle p' p i' i a b c d e = omega arith

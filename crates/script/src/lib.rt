@@ -1,170 +1,146 @@
 // Scripts of calls in text, a call a line; blank lines and what follows `#` pass.
 #![tactic(auto)]
 
-use std::alloc::{AllocError, AllocFailed, Global};
+ghost use Rattle.std.specs.Prelude.{IfOk, IfErr};
+ghost use Rattle.script.specs.Script.{HasSizes, NamesLine, Begun, Goes};
 
+use std::alloc::Global;
+
+pub mod calculus;
+pub mod fault;
 pub mod line;
 pub mod words;
 
-use line::{Line, Part};
-use words::{Words, cell};
+use calculus::Calculus;
+pub use fault::{Bad, Fault};
+use line::Line;
+use words::cells;
 
-// A script: the calculus' program, the lines in order, and the cells and place entries that they name.
-#[derive(Drop)]
+// A script: the calculus, its program, and the lines that follow in order.
+#[derive(Debug, Drop, PartialEq, Eq)]
 pub struct Script {
-    pub calculus: u8,
+    pub calculus: Calculus,
     pub program: Vec<u64>,
-    pub cells: Vec<u64>,
-    pub entries: Vec<u8>,
     pub lines: Vec<Line>,
 }
 
-// Why a script is not read: the number of the first bad line, from 1, or of the line after the last where no calculus is
-// named; or no memory.
-#[derive(Clone, Copy, PartialEq, Eq, Debug)]
-pub enum Fault {
-    Line(usize),
-    Memory,
-}
-
-// What is wrong within a line.
-#[derive(Clone, Copy, PartialEq, Eq, Debug)]
-pub enum Bad {
-    Text,
-    Memory,
-}
-
-impl From<AllocError> for Bad {
-    fn from(_: AllocError) -> Bad {
-        Bad::Memory
-    }
-}
-
-impl<T: Drop> From<AllocFailed<T>> for Bad {
-    fn from(_: AllocFailed<T>) -> Bad {
-        Bad::Memory
-    }
-}
-
 impl Script {
-    fn new(heap: Global) -> Script {
-        Script {
-            calculus: 0,
-            program: Vec::new(heap),
-            cells: Vec::new(heap),
-            entries: Vec::new(heap),
-            lines: Vec::new(heap),
-        }
-    }
-
     // Reads a whole script.
-    pub fn parse(heap: Global, text: &str) -> Result<Script, Fault> {
-        let mut script = Script::new(heap);
-        let mut number: usize = 1;
-        for line in text.lines() {
-            let body = line.split('#').next().unwrap_or("");
-            match script.read(body) {
-                Ok(()) => {}
-                Err(Bad::Text) => return Err(Fault::Line(number)),
-                Err(Bad::Memory) => return Err(Fault::Memory),
-            }
-            number = number.saturating_add(1);
+    pub fn parse(heap: Global, text: &str) -> Result<Script, Fault>
+        ensures sizes { IfOk result HasSizes }
+        ensures line { IfErr result (NamesLine text.now) }
+    {
+        let mut script = None;
+        for (i, line) in text.lines().enumerate() {
+            read(heap, line, &mut script).map_err(|bad| bad.in_line(i + 1))?;
         }
-        if script.calculus == 0 {
-            return Err(Fault::Line(number));
-        }
-        Ok(script)
+        script.ok_or(Fault::Line(text.lines().count() + 1))
     }
 
-    // One line: the calculus first, then the calls.
-    fn read(&mut self, body: &str) -> Result<(), Bad> {
-        let mut words = Words::new(body);
-        let Some(word) = words.next() else {
-            return Ok(());
-        };
-        if self.calculus == 0 {
-            return self.read_calculus(word, words);
+    // Reads the words of the first line: the calculus, and its program's cells.
+    fn begin(heap: Global, words: &[&str]) -> Result<Script, Bad>
+        ensures { IfOk result Begun }
+    {
+        match *words {
+            ["calculus", number, ref program @ ..] => Ok(Script {
+                calculus: number.parse::<u8>()?.try_into()?,
+                program: cells(heap, program)?,
+                lines: Vec::new(heap),
+            }),
+            _ => Err(Bad::Text),
         }
-        let line = match word {
-            "memory" => Line::Memory(
-                words.number(4096)?,
-                words.number(4096)?,
-                words.number(4096)?,
-            ),
-            "open" => return self.read_open(words),
-            "settle" => return self.read_settle(words),
-            "step" => self.read_step(&mut words)?,
-            "withdraw" => Line::Withdraw(words.number(65_535)? as u16),
-            "tell" => Line::Tell,
-            "table" => Line::Table(words.number(4096)?),
-            _ => return Err(Bad::Text),
-        };
-        words.end()?;
-        self.lines.push(line)?;
+    }
+}
+
+// Reads one line: the calculus first, then the calls.
+fn read(heap: Global, line: &str, script: &mut Option<Script>) -> Result<(), Bad>
+    ensures { Goes script.old script.new }
+{
+    let body = line.split_once('#').map_or(line, |(body, _)| body);
+    let words: Vec<&str> = body.split_whitespace().collect(heap)?;
+    if words.is_empty() {
+        return Ok(());
+    }
+    match script {
+        None => *script = Some(Script::begin(heap, &words)?),
+        Some(script) => script.lines.push(Line::read(heap, &words)?)?,
+    }
+    Ok(())
+}
+
+#[cfg(test)]
+mod tests {
+    use super::*;
+    use std::test::Fail;
+
+    const TEXT: &str = "# one of each
+calculus 2 9002000000000000
+
+memory 1 2 4096 # sizes
+open 8801000000000002 8800000000000001
+step 1 2 1.0 -
+settle 65535 8800000000000001
+withdraw 7
+tell
+table 8
+";
+
+    #[test]
+    fn reads_each_line(rt: HostRuntime) -> Result<(), Fail> {
+        let heap = rt.alloc();
+        let script = Script::parse(heap, TEXT)?;
+        let cell = 0x8800_0000_0000_0001;
+        let lines = [
+            Line::Memory {
+                table: 1,
+                scratch: 2,
+                walk: 4096,
+            },
+            Line::Open(Vec::from_slice(heap, &[0x8801_0000_0000_0002, cell])?),
+            Line::Step {
+                rule: 1,
+                argument: 2,
+                place: Vec::from_slice(heap, &[1, 0])?,
+                inner: Vec::new(heap),
+            },
+            Line::Settle {
+                ticket: 65535,
+                claim: Vec::from_slice(heap, &[cell])?,
+            },
+            Line::Withdraw(7),
+            Line::Tell,
+            Line::Table(8),
+        ];
+        assert_eq!(rt; script.calculus, Calculus::LetRewriting);
+        assert_eq!(rt;
+            script.program.as_slice(),
+            [0x9002_0000_0000_0000].as_slice()
+        );
+        assert_eq!(rt; script.lines.as_slice(), lines.as_slice());
         Ok(())
     }
 
-    fn read_calculus(&mut self, word: &str, mut words: Words) -> Result<(), Bad> {
-        if word != "calculus" {
-            return Err(Bad::Text);
+    #[test]
+    fn tells_the_first_bad_line(rt: HostRuntime) -> Result<(), Fail> {
+        let scripts = [
+            ("", 1),
+            ("tell", 1),
+            ("\n\n", 3),
+            ("calculus 1", 1),
+            ("calculus 2\nopen 12", 2),
+            ("calculus 2\n\nmemory 1 4097 1", 3),
+            ("calculus 2\nstep 1 2 1..0 -", 2),
+            ("calculus 2\ntell now", 2),
+        ];
+        for (text, line) in scripts {
+            let fault = Script::parse(rt.alloc(), text).err().ok_or("read")?;
+            assert_eq!(rt; fault, Fault::Line(line));
         }
-        let calculus = words.number(2)?;
-        if calculus != 2 {
-            return Err(Bad::Text);
-        }
-        for word in words.words {
-            self.program.push(cell(word)?)?;
-        }
-        self.calculus = calculus as u8;
+        let fault = Script::parse(rt.alloc(), "calculus 3").err().ok_or("read")?;
+        assert_eq!(rt;
+            fault.to_string(rt.alloc())?.as_str(),
+            "line 1: not understood"
+        );
         Ok(())
-    }
-
-    fn read_open(&mut self, words: Words) -> Result<(), Bad> {
-        let part = self.read_cells(words)?;
-        self.lines.push(Line::Open(part))?;
-        Ok(())
-    }
-
-    fn read_settle(&mut self, mut words: Words) -> Result<(), Bad> {
-        let ticket = words.number(65_535)? as u16;
-        let part = self.read_cells(words)?;
-        self.lines.push(Line::Settle(ticket, part))?;
-        Ok(())
-    }
-
-    // The cells to the end of the line.
-    fn read_cells(&mut self, words: Words) -> Result<Part, Bad> {
-        let start = self.cells.len();
-        for word in words.words {
-            self.cells.push(cell(word)?)?;
-        }
-        Ok(Part {
-            start,
-            end: self.cells.len(),
-        })
-    }
-
-    fn read_step(&mut self, words: &mut Words) -> Result<Line, Bad> {
-        let rule = words.number(255)? as u8;
-        let argument = words.number(255)? as u8;
-        let place = self.read_place(words)?;
-        let inner = self.read_place(words)?;
-        Ok(Line::Step(rule, argument, place, inner))
-    }
-
-    // A place: `-`, or entries with a dot between them.
-    fn read_place(&mut self, words: &mut Words) -> Result<Part, Bad> {
-        let start = self.entries.len();
-        let word = words.next().ok_or(Bad::Text)?;
-        if word != "-" {
-            for entry in word.split('.') {
-                let n = entry.parse::<u8>().ok().ok_or(Bad::Text)?;
-                self.entries.push(n)?;
-            }
-        }
-        Ok(Part {
-            start,
-            end: self.entries.len(),
-        })
     }
 }

@@ -1,0 +1,4 @@
+pub mod Words
+pub mod Calculus
+pub mod Line
+pub mod Script
