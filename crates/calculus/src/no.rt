@@ -6,12 +6,12 @@ ghost use Rattle.calculus.specs.Answers.{number_of};
 // "unless" fail; the sum is no 32-bit signed integer; more cells than the space.
 #[derive(Clone, Copy, PartialEq, Eq, Debug)]
 pub enum No {
-    NoRule,
-    Unfit,
-    Formless,
-    Barred,
-    Oversum,
-    Overlong,
+    NoRule = 10,
+    Unfit = 11,
+    Formless = 12,
+    Barred = 13,
+    Oversum = 14,
+    Overlong = 15,
 }
 
 impl No {
@@ -19,13 +19,6 @@ impl No {
     pub fn number(self) -> u8
         ensures { result ≡ number_of self }
     {
-        match self {
-            No::NoRule => 10,
-            No::Unfit => 11,
-            No::Formless => 12,
-            No::Barred => 13,
-            No::Oversum => 14,
-            No::Overlong => 15,
-        }
+        self as u8
     }
 }

@@ -1,6 +1,7 @@
 -- Eight bytes and the cell that they spell. Assumes nothing.
-use Rattle.std.proofs.Common.{◌≡◌, ℕ, ◌+◌, ◌*◌, ◌/◌, ◌%◌, ◌^◌, ◌<◌, ◌≤◌, List, [], ◌∷◌, ◌++◌, length, get_or, take, drop, refl, ap, arith}
-use Rattle.std.proofs.lemmas.List.{drop_more}
+use Rattle.std.proofs.Common.{◌≡◌, ℕ, zero, suc, ◌+◌, ◌*◌, ◌/◌, ◌%◌, ◌^◌, ◌<◌, ◌≤◌, List, [], ◌∷◌, ◌++◌, length, get_or, take, drop, refl, ap, ◌∙◌, arith}
+use Rattle.std.proofs.lemmas.List.{drop_more, drop-drop}
+use Rattle.std.specs.Simd.{first_chunks}
 use Rattle.terms.specs.Lists.{All}
 use Rattle.cell_bytes.specs.Spelling.{spell_cell, spell}
 
@@ -40,6 +41,14 @@ eight l i h =
     let e6 : i + 1 + 1 + 1 + 1 + 1 + 1 ≡ i + 6 = omega arith in
     let e7 : i + 1 + 1 + 1 + 1 + 1 + 1 + 1 ≡ i + 7 = omega arith in
     rw (a, b, c, d, e, f, g, k, e7, e6, e5, e4, e3, e2)
+
+-- the chunk with this number
+pub chunk_at : (k i : ℕ) (l : List ℕ) → i < k → get_or (first_chunks 8 k l) i [] ≡ take 8 (drop (8 * i) l)
+chunk_at zero i l h = absurd (omega arith)
+chunk_at (suc k) zero l h = refl
+chunk_at (suc k) (suc i) l h =
+    let e : 8 + 8 * i ≡ 8 * suc i = omega arith in
+    chunk_at k i (drop 8 l) (omega arith) ∙ ap (take 8) (drop-drop (8 * i) 8 l ∙ ap (λ n. drop n l) e)
 
 -- one cell more
 pub spell_more : (xs : List ℕ) (x : ℕ) → spell spell_cell (xs ++ x ∷ []) ≡ spell spell_cell xs ++ spell_cell x

@@ -5,18 +5,12 @@ ghost use Rattle.ffi.specs.Depths.{DepthOf};
 
 use layout::{DEPTH_MOST, Walk, layout};
 
-const BLANK: Walk = Walk {
-    left: 0,
-    above: 0,
-    last: 0,
-};
-
 // The depth of a term that keeps the layout, and 0 for other cells.
 #[unsafe(no_mangle)]
 pub extern "C" fn layout_depth(cells: &[u64]) -> usize
     ensures { DepthOf cells.now result }
 {
-    let mut walk = [BLANK; DEPTH_MOST];
+    let mut walk = [Walk::default(); DEPTH_MOST];
     match layout(cells, &mut walk) {
         Ok((_, depth)) => depth,
         Err(_) => 0,

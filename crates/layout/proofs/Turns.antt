@@ -1,6 +1,6 @@
 -- The judge's turns: what it has found before a cell, what it finds there, and the verdicts. Assumes nothing.
-use Rattle.std.proofs.Common.{◌≡◌, ℕ, suc, ◌+◌, ◌-◌, ◌^◌, ◌<◌, ◌≤◌, max, Bool, true, false, eqb, leb, List, [], ◌∷◌, length, get_or, take, drop, Some, None, Option, sym, refl, ap, ◌∙◌, subst, add-one, arith, below_more}
-use Rattle.std.proofs.lemmas.List.{take_all, drop-drop}
+use Rattle.std.proofs.Common.{◌≡◌, ℕ, suc, ◌+◌, ◌^◌, ◌<◌, ◌≤◌, max, Bool, true, false, eqb, leb, List, [], ◌∷◌, length, get_or, take, Some, None, Option, sym, refl, ap, ◌∙◌, subst, add-one, arith, below_more}
+use Rattle.std.proofs.lemmas.List.{take_all}
 use Rattle.std.proofs.lemmas.Bool.Decides.{nat_tests}
 use Rattle.layout.specs.declared.Walk.{Walk}
 use Rattle.layout.specs.Open.{Holds, Follows, Good}
@@ -108,9 +108,3 @@ keeps cells i walk o d small s q e =
 pub all_at : (P : ℕ → Type 0) (xs : List ℕ) → ((i : ℕ) → i < length xs → P (get_or xs i 0)) → All P xs
 all_at P [] h = tt
 all_at P (x ∷ xs) h = (h 0 (omega arith), all_at P xs (λ i l. h (suc i) (omega arith)))
-
--- what is kept from m on is kept from n on
-pub drop_later : {A : Type 0} (m n : ℕ) (xs ys : List A) → m ≤ n → drop m xs ≡ drop m ys → drop n xs ≡ drop n ys
-drop_later m n xs ys l e =
-    let k : m + (n - m) ≡ n = omega arith in
-    sym (ap (λ j. drop j xs) k) ∙ sym (drop-drop (n - m) m xs) ∙ ap (drop (n - m)) e ∙ drop-drop (n - m) m ys ∙ ap (λ j. drop j ys) k

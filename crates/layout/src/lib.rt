@@ -3,10 +3,12 @@
 
 ghost use Rattle.std.specs.Prelude.{◌≡◌, ◌+◌, ◌<◌, ◌≤◌, max, List, length, drop, Decides};
 ghost use Rattle.layout.specs.Answers.{Answered};
-ghost use Rattle.layout.specs.Open.{first, Stands, Holds, Held, Follows, Good};
+ghost use Rattle.layout.specs.declared.Fault.TheVariants.{Memory};
+ghost use Rattle.layout.specs.Open.{first, Stands, Holds, Follows, Good};
 ghost use Rattle.terms.specs.Cells.{children, Fields};
-ghost use Rattle.terms.specs.Layout.{Parent, onward, next, binders};
+ghost use Rattle.terms.specs.Layout.{Parent, onward, next, binders, LayoutJudged};
 
+use std::alloc::AllocError;
 use terms::cell::{binder, children, kind, payload, zeros};
 
 // The most cells of a term.
@@ -20,7 +22,7 @@ pub const FREE_MOST: u32 = 1024;
 
 // A cell still open on a walk: its children yet to come, the next among them; the binders above each of them but the
 // last, and above the last.
-#[derive(Clone, Copy, PartialEq, Eq, Debug)]
+#[derive(Clone, Copy, PartialEq, Eq, Debug, Default)]
 pub struct Walk {
     pub left: u16,
     pub above: u16,
@@ -34,44 +36,59 @@ pub enum Fault {
     Cell(usize),
 }
 
+impl From<AllocError> for Fault {
+    ghost from_gives = { λ _ f. f ≡ Memory };
+
+    fn from(_e: AllocError) -> Self {
+        Self::Memory
+    }
+}
+
 // The cells and the depth of a term that keeps the layout.
 pub fn layout(cells: &[u64], walk: &mut [Walk]) -> Result<(usize, usize), Fault>
     ensures answer { Answered (length walk.old) cells.now result }
     ensures short { length walk.old < 256 → walk.new ≡ walk.old }
     ensures past { drop 256 walk.new ≡ drop 256 walk.old }
 {
-    if walk.len() < DEPTH_MOST {
-        return Err(Fault::Memory);
-    }
+    let walk = walk.first_chunk_mut().ok_or(Fault::Memory)?;
+    laid(cells, walk).map_err(Fault::Cell)
+}
+
+// The same with records enough, or the first wrong cell, else the count.
+fn laid(cells: &[u64], walk: &mut [Walk; DEPTH_MOST]) -> Result<(usize, usize), usize>
+    ensures judged { LayoutJudged cells.now result }
+    ensures records { length walk.new ≡ 256 }
+{
     let mut coming = Some(0);
     let mut deepest = 0;
     for (i, c) in cells.iter().enumerate() {
-        let Some(height) = coming else {
-            return Err(Fault::Cell(i));
-        };
-        if !has_room(i, height) || !is_good(*c, binders_above(walk, height)) {
-            return Err(Fault::Cell(i));
+        let height = coming.ok_or(i)?;
+        if !has_room(i, height) {
+            return Err(i);
+        }
+        let above = binders_above(&walk[..height]);
+        if !is_good(*c, above) {
+            return Err(i);
         }
         deepest = deepened(deepest, height);
-        coming = pass(walk, height, *c);
+        coming = pass(walk, height, above, *c);
     }
     match coming {
         None => Ok((cells.len(), deepest)),
-        Some(_) => Err(Fault::Cell(cells.len())),
+        Some(_) => Err(cells.len()),
     }
 }
 
 // How many cells lie above the cell that follows the cell c, if one does.
-fn pass(walk: &mut [Walk], height: usize, c: u64) -> Option<usize>
-    requires held { Held walk.old height }
-    requires room { (height < 256) × (256 ≤ length walk.old) }
-    ensures follows { (up : List Parent) → height ≡ length up → Holds walk.old up → Follows walk.new (next c up) result }
-    ensures past { drop (height + 1) walk.new ≡ drop (height + 1) walk.old }
+fn pass(walk: &mut [Walk; DEPTH_MOST], height: usize, above: u16, c: u64) -> Option<usize>
+    requires room { height < 256 }
+    requires few { above ≤ 256 }
+    ensures { (up : List Parent) → height ≡ length up → above ≡ binders up → Holds walk.old up → Follows walk.new (next c up) result }
 {
     if children(c) == 0 {
-        return close(walk, height);
+        return close(&mut walk[..height]);
     }
-    walk[height] = enter(c, binders_above(walk, height));
+    walk[height] = enter(c, above);
     Some(height + 1)
 }
 
@@ -85,30 +102,22 @@ fn enter(c: u64, above: u16) -> Walk
     Walk { left, above, last }
 }
 
-// The same behind a finished term, the last child of each cell that it closes.
-fn close(walk: &mut [Walk], height: usize) -> Option<usize>
-    requires { height ≤ length walk.old }
-    ensures follows { (up : List Parent) → height ≡ length up → Holds walk.old up → Follows walk.new (onward up) result }
-    ensures past { drop height walk.new ≡ drop height walk.old }
+// How many of the open cells stay open behind a finished term, the last child of each that it closes; none where all close.
+fn close(walk: &mut [Walk]) -> Option<usize>
+    ensures { (up : List Parent) → length walk.old ≡ length up → Holds walk.old up → Follows walk.new (onward up) result }
 {
-    for top in (0..height).rev() {
-        if walk[top].left > 1 {
-            walk[top].left -= 1;
-            return Some(top + 1);
-        }
-    }
-    None
+    let top = walk.iter().rposition(|w| w.left > 1)?;
+    walk[top].left -= 1;
+    Some(top + 1)
 }
 
-// The binders above the cell that comes, under so many others.
-fn binders_above(walk: &[Walk], height: usize) -> u16
-    requires { height ≤ length walk.now }
-    ensures { (up : List Parent) → height ≡ length up → Holds walk.now up → result ≡ binders up }
+// The binders above the cell that comes, under these open cells.
+fn binders_above(walk: &[Walk]) -> u16
+    ensures { (up : List Parent) → length walk.now ≡ length up → Holds walk.now up → result ≡ binders up }
 {
-    if height == 0 {
+    let Some(&top) = walk.last() else {
         return 0;
-    }
-    let top = walk[height - 1];
+    };
     if top.left == 1 { top.last } else { top.above }
 }
 
@@ -149,14 +158,8 @@ mod tests {
 
     const INTEGER: u64 = 1 << 58;
 
-    const BLANK: Walk = Walk {
-        left: 0,
-        above: 0,
-        last: 0,
-    };
-
     fn judged(cells: &[u64]) -> Result<(usize, usize), Fault> {
-        let mut walk = [BLANK; DEPTH_MOST];
+        let mut walk = [Walk::default(); DEPTH_MOST];
         layout(cells, &mut walk)
     }
 
@@ -169,7 +172,7 @@ mod tests {
 
     #[test]
     fn short_walk(rt: HostRuntime) {
-        let mut walk = [BLANK; 255];
+        let mut walk = [Walk::default(); 255];
         assert_eq!(rt; layout(&[INTEGER], &mut walk), Err(Fault::Memory));
     }
 

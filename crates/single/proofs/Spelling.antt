@@ -1,5 +1,5 @@
 -- The cells that bytes spell, and a wrong cell among the first of them. Assumes nothing.
-use Rattle.std.proofs.Common.{◌≡◌, ℕ, zero, suc, ◌+◌, ◌*◌, ◌/◌, ◌^◌, ◌<◌, ◌≤◌, Bool, true, false, ltb, List, [], ◌∷◌, ◌++◌, length, get_or, take, drop, Some, sym, refl, ap, ◌∙◌, subst, inl, inr, append_assoc, append-nil, arith, length-append, length-drop, take-append-drop}
+use Rattle.std.proofs.Common.{◌≡◌, ℕ, zero, suc, ◌+◌, ◌*◌, ◌/◌, ◌^◌, ◌<◌, ◌≤◌, Bool, true, false, ltb, List, [], ◌∷◌, ◌++◌, length, get_or, take, drop, Some, Ok, Err, sym, refl, ap, ◌∙◌, subst, inl, inr, append_assoc, append-nil, arith, length-append, length-drop, take-append-drop}
 use Rattle.std.proofs.lemmas.List.{take-append-le, take_all, get_or-drop, get_or_append_left, length-take-le}
 use Rattle.std.proofs.lemmas.Bool.Decides.{nat_tests}
 use Rattle.terms.specs.Terms.{Laid}
@@ -8,7 +8,10 @@ use Rattle.terms.specs.Layout.{parents, walked, binders, Wrong, fields, far, dee
 use Rattle.terms.proofs.Walks.{laid_right}
 use Rattle.cell_bytes.specs.Spelling.{spell, spell_cell, CellsRead}
 use Rattle.cell_bytes.proofs.Words.{word, spell_word, eight, all-++}
-use Rattle.single.specs.Verdicts.{Spells, Bad}
+use Rattle.layout.specs.Answers.{Answered}
+use Rattle.layout.specs.declared.Fault.{Fault}
+use Rattle.layout.specs.declared.Fault.TheVariants.{Memory, Cell}
+use Rattle.single.specs.Verdicts.{Spells, Bad, TermJudged}
 
 pub spell-++ : (xs ys : List ℕ) → spell spell_cell (xs ++ ys) ≡ spell spell_cell xs ++ spell spell_cell ys
 spell-++ [] ys = refl
@@ -150,3 +153,12 @@ module _ (bytes old new : List ℕ) (n : ℕ) (read : CellsRead bytes old new n)
           let ge : n ≤ i = grind (arith, nat_tests) in
           let few : (2048 < n → ⊥) = λ k. b.before 2048 (omega arith) (many refl) in
           (take n new, drop (8 * n) bytes, rest_spelt (omega arith), bad_of (take n new) (drop (8 * n) bytes) i b)
+
+  -- what the layout judge refuses is refused
+  pub refused : (w : ℕ) (f : Fault) → Answered w (take n new) (Err f) → TermJudged (length old) w bytes (Err f)
+  refused w Memory a = inr a
+  refused w (Cell i) a = (room, a.0, first_wrong i a.1)
+
+  -- bytes left over behind a term
+  pub left : (w d m : ℕ) → Answered w (take n new) (Ok (m, d)) → (length bytes ≡ 8 * n → ⊥) → TermJudged (length old) w bytes (Err (Cell n))
+  left w d m a h = (room, a.0, part_left a.1.layout h)

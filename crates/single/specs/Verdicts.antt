@@ -1,11 +1,11 @@
 -- What the checker of a single term answers.
-use Rattle.std.specs.Prelude.{◌≡◌, ℕ, ◌^◌, ◌<◌, ◌≤◌, ◌⊎◌, List, [], ◌∷◌, ◌++◌, length, Ok, Err}
+use Rattle.std.specs.Prelude.{◌≡◌, ℕ, ◌^◌, ◌<◌, ◌≤◌, ◌⊎◌, List, [], ◌∷◌, ◌++◌, length, Result, Ok, Err}
 use Rattle.terms.specs.Lists.{All}
 use Rattle.terms.specs.Terms.{Laid}
 use Rattle.terms.specs.Layout.{LayoutJudged}
 use Rattle.cell_bytes.specs.Spelling.{spell, spell_cell, CellsRead}
-use Rattle.single.specs.declared.verdict.Verdict.{Verdict}
-use Rattle.single.specs.declared.verdict.Verdict.TheVariants.{Term, Refused, Memory}
+use Rattle.layout.specs.declared.Fault.{Fault}
+use Rattle.layout.specs.declared.Fault.TheVariants.{Memory, Cell}
 
 -- The bytes spell these cells, and fewer than eight bytes are left.
 pub record Spells (bytes cells rest : List ℕ) : Type 0 where
@@ -19,15 +19,15 @@ Bad cells [] i = LayoutJudged cells (Err i)
 Bad cells (b ∷ bs) i = LayoutJudged cells (Err i) ⊎ (Laid cells × (i ≡ length cells))
 
 -- By the room for cells and for walk records, and the bytes.
-abbrev pub TermJudged : (room records : ℕ) → List ℕ → Verdict → Type 0
-TermJudged room records bytes Memory = (room < 2049) ⊎ (records < 256)
-TermJudged room records bytes (Term n d) =
-    (2049 ≤ room) × (256 ≤ records) × ((cells : List ℕ) × Spells bytes cells [] × LayoutJudged cells (Ok (n, d)))
-TermJudged room records bytes (Refused i) =
+abbrev pub TermJudged : (room records : ℕ) → List ℕ → Result (ℕ × ℕ) Fault → Type 0
+TermJudged room records bytes (Err Memory) = (room < 2049) ⊎ (records < 256)
+TermJudged room records bytes (Ok v) =
+    (2049 ≤ room) × (256 ≤ records) × ((cells : List ℕ) × Spells bytes cells [] × LayoutJudged cells (Ok v))
+TermJudged room records bytes (Err (Cell i)) =
     (2049 ≤ room) × (256 ≤ records) × ((cells rest : List ℕ) × Spells bytes cells rest × Bad cells rest i)
 
 -- The memory for cells holds those that were read, and is not altered where it does not suffice.
-abbrev pub CellsLeft : (bytes old new : List ℕ) → Verdict → Type 0
-CellsLeft bytes old new Memory = new ≡ old
-CellsLeft bytes old new (Term n d) = CellsRead bytes old new n
-CellsLeft bytes old new (Refused i) = (n : ℕ) × CellsRead bytes old new n
+abbrev pub CellsLeft : (bytes old new : List ℕ) → Result (ℕ × ℕ) Fault → Type 0
+CellsLeft bytes old new (Err Memory) = new ≡ old
+CellsLeft bytes old new (Ok v) = CellsRead bytes old new v.0
+CellsLeft bytes old new (Err (Cell i)) = (n : ℕ) × CellsRead bytes old new n

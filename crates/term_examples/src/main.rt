@@ -1,6 +1,8 @@
 // Judges terms at the limits of the layout, and prints a line for each.
 #![tactic(auto)]
 
+ghost use Rattle.std.specs.Prelude.{◌<◌};
+
 use layout::{CELLS_MOST, DEPTH_MOST, Walk};
 use single::judge;
 use single::verdict::Verdict;
@@ -22,11 +24,8 @@ const ZERO_BIT: u64 = 1 << 32;
 
 const BINDER: u64 = 1 << 57;
 
-const BLANK: Walk = Walk {
-    left: 0,
-    above: 0,
-    last: 0,
-};
+// A term's name, its cells, and how many bytes come after them.
+type Case<'c> = (&'c str, &'c [u64], usize);
 
 // The verdict on cells, with some bytes more.
 fn verdict(rt: &HostRuntime, cells: &[u64], more: usize) -> anyhow::Result<Verdict> {
@@ -34,41 +33,48 @@ fn verdict(rt: &HostRuntime, cells: &[u64], more: usize) -> anyhow::Result<Verdi
     for c in cells {
         bytes.extend_from_slice(&c.to_be_bytes())?;
     }
-    for _ in 0..more {
-        bytes.push(0)?;
-    }
+    bytes.extend_from_slice(&[0; 8][..more.min(8)])?;
     let mut read = vec![in rt.alloc(); 0; CELLS_MOST + 1]?;
-    let mut walk = vec![in rt.alloc(); BLANK; DEPTH_MOST]?;
-    Ok(judge(&bytes, &mut read, &mut walk))
+    let mut walk = vec![in rt.alloc(); Walk::default(); DEPTH_MOST]?;
+    Ok(Verdict::from(judge(&bytes, &mut read, &mut walk)))
 }
 
-// Prints the verdict under a name.
-fn show(rt: &HostRuntime, name: &str, cells: &[u64], more: usize) -> anyhow::Result<()> {
-    let verdict = verdict(rt, cells, more)?;
-    println!(rt; "{name}: {verdict}")?;
+// Prints the verdict on each under its name.
+fn show(rt: &HostRuntime, cases: &[Case]) -> anyhow::Result<()> {
+    for (name, cells, more) in cases {
+        let verdict = verdict(rt, cells, *more)?;
+        println!(rt; "{name}: {verdict}")?;
+    }
     Ok(())
 }
 
-// One cell under another, so deep.
-fn chain(rt: &HostRuntime, link: u64, depth: usize, last: u64) -> anyhow::Result<Vec<u64>> {
-    let mut cells = Vec::new(rt.alloc());
-    for _ in 1..depth {
-        cells.push(link)?;
-    }
+// So many cells, each over the next, and a last one under them.
+fn chain(rt: &HostRuntime, link: u64, links: usize, last: u64) -> anyhow::Result<Vec<u64>> {
+    let mut cells = vec![in rt.alloc(); link; links]?;
     cells.push(last)?;
     Ok(cells)
 }
 
-// A tuple of 23 tuples of 88 integers: 2,048 cells; the last tuple has some more.
-fn wide(rt: &HostRuntime, more: u64) -> anyhow::Result<Vec<u64>> {
+// Adds a tuple that says it has so many children, and so many integers after it.
+fn add_tuple(cells: &mut Vec<u64>, children: u64, there: usize) -> anyhow::Result<()>
+    requires { children < 512 }
+{
+    cells.push(TUPLE + children * CHILD)?;
+    cells.resize(cells.len().saturating_add(there), INTEGER)?;
+    Ok(())
+}
+
+// A tuple of 23 tuples of 88 integers: 2,048 cells; the last tuple has one more where that is asked.
+fn wide(rt: &HostRuntime, more: bool) -> anyhow::Result<Vec<u64>> {
     let mut cells = Vec::new(rt.alloc());
-    cells.push(TUPLE + 23 * CHILD)?;
-    for i in 0..23 {
-        let n = if i == 22 { more.min(8) + 88 } else { 88 };
-        cells.push(TUPLE + n * CHILD)?;
-        for _ in 0..n {
-            cells.push(INTEGER)?;
-        }
+    add_tuple(&mut cells, 23, 0)?;
+    for _ in 0..22 {
+        add_tuple(&mut cells, 88, 88)?;
+    }
+    if more {
+        add_tuple(&mut cells, 89, 89)?;
+    } else {
+        add_tuple(&mut cells, 88, 88)?;
     }
     Ok(cells)
 }
@@ -76,77 +82,63 @@ fn wide(rt: &HostRuntime, more: u64) -> anyhow::Result<Vec<u64>> {
 // A tuple that says it has 511 children, and so many integers after it.
 fn tuple_of_511(rt: &HostRuntime, there: usize) -> anyhow::Result<Vec<u64>> {
     let mut cells = Vec::new(rt.alloc());
-    cells.push(TUPLE + 511 * CHILD)?;
-    for _ in 0..there {
-        cells.push(INTEGER)?;
-    }
+    add_tuple(&mut cells, 511, there)?;
     Ok(cells)
 }
 
 fn sizes(rt: &HostRuntime) -> anyhow::Result<()> {
-    show(rt, "no cell", &[], 0)?;
-    show(rt, "one cell", &[INTEGER + 7], 0)?;
-    show(rt, "seven bytes", &[], 7)?;
-    show(rt, "a cell and a byte", &[INTEGER], 1)?;
-    show(
-        rt,
-        "a tuple cut within its last cell",
-        &[TUPLE + 2 * CHILD, INTEGER],
-        4,
-    )?;
-    show(rt, "two terms", &[INTEGER, INTEGER], 0)?;
-    show(rt, "2,048 cells", &wide(rt, 0)?, 0)?;
-    show(rt, "2,049 cells", &wide(rt, 1)?, 0)?;
-    show(rt, "2,048 cells and a byte", &wide(rt, 0)?, 1)?;
-    show(rt, "depth 256", &chain(rt, ONE, 256, INTEGER)?, 0)?;
-    show(rt, "depth 257", &chain(rt, ONE, 257, INTEGER)?, 0)
+    let full = wide(rt, false)?;
+    let over = wide(rt, true)?;
+    let deep = chain(rt, ONE, 255, INTEGER)?;
+    let deeper = chain(rt, ONE, 256, INTEGER)?;
+    let cut = [TUPLE + 2 * CHILD, INTEGER];
+    let cases: [Case; 11] = [
+        ("no cell", &[], 0),
+        ("one cell", &[INTEGER + 7], 0),
+        ("seven bytes", &[], 7),
+        ("a cell and a byte", &[INTEGER], 1),
+        ("a tuple cut within its last cell", &cut, 4),
+        ("two terms", &[INTEGER, INTEGER], 0),
+        ("2,048 cells", &full, 0),
+        ("2,049 cells", &over, 0),
+        ("2,048 cells and a byte", &full, 1),
+        ("depth 256", &deep, 0),
+        ("depth 257", &deeper, 0),
+    ];
+    show(rt, &cases)
 }
 
 fn fields(rt: &HostRuntime) -> anyhow::Result<()> {
-    show(rt, "511 children", &tuple_of_511(rt, 511)?, 0)?;
-    show(rt, "511 children, 510 there", &tuple_of_511(rt, 510)?, 0)?;
-    show(rt, "511 children, none there", &tuple_of_511(rt, 0)?, 0)?;
-    show(
-        rt,
-        "children that can never be filled",
-        &chain(rt, TUPLE + 511 * CHILD, 300, INTEGER)?,
-        0,
-    )?;
-    show(
-        rt,
-        "a zero bit set",
-        &[TUPLE + CHILD, INTEGER + ZERO_BIT],
-        0,
-    )?;
-    show(rt, "a binder with no child", &[TUPLE + BINDER], 0)?;
-    show(
-        rt,
-        "a variable with a child",
-        &[VARIABLE + CHILD, INTEGER],
-        0,
-    )?;
-    show(rt, "free number 1,023", &[VARIABLE + 1023], 0)?;
-    show(rt, "free number 1,024", &[VARIABLE + 1024], 0)?;
-    show(
-        rt,
-        "free number 1,023 under a binder",
-        &[LAMBDA, VARIABLE + 1024],
-        0,
-    )?;
-    show(
-        rt,
-        "free number 1,024 under a binder",
-        &[LAMBDA, VARIABLE + 1025],
-        0,
-    )?;
-    show(
-        rt,
-        "a binder binds its last child only",
-        &[TUPLE + BINDER + 2 * CHILD, VARIABLE + 1024, VARIABLE + 1024],
-        0,
-    )?;
-    show(rt, "variable 4,294,967,295", &[VARIABLE + 4_294_967_295], 0)?;
-    show(rt, "integer 4,294,967,295", &[INTEGER + 4_294_967_295], 0)
+    let all = tuple_of_511(rt, 511)?;
+    let but_one = tuple_of_511(rt, 510)?;
+    let none = tuple_of_511(rt, 0)?;
+    let never = chain(rt, TUPLE + 511 * CHILD, 299, INTEGER)?;
+    let last_only = [TUPLE + BINDER + 2 * CHILD, VARIABLE + 1024, VARIABLE + 1024];
+    let cases: [Case; 14] = [
+        ("511 children", &all, 0),
+        ("511 children, 510 there", &but_one, 0),
+        ("511 children, none there", &none, 0),
+        ("children that can never be filled", &never, 0),
+        ("a zero bit set", &[TUPLE + CHILD, INTEGER + ZERO_BIT], 0),
+        ("a binder with no child", &[TUPLE + BINDER], 0),
+        ("a variable with a child", &[VARIABLE + CHILD, INTEGER], 0),
+        ("free number 1,023", &[VARIABLE + 1023], 0),
+        ("free number 1,024", &[VARIABLE + 1024], 0),
+        (
+            "free number 1,023 under a binder",
+            &[LAMBDA, VARIABLE + 1024],
+            0,
+        ),
+        (
+            "free number 1,024 under a binder",
+            &[LAMBDA, VARIABLE + 1025],
+            0,
+        ),
+        ("a binder binds its last child only", &last_only, 0),
+        ("variable 4,294,967,295", &[VARIABLE + 4_294_967_295], 0),
+        ("integer 4,294,967,295", &[INTEGER + 4_294_967_295], 0),
+    ];
+    show(rt, &cases)
 }
 
 fn main(rt: HostRuntime) -> anyhow::Result<()> {

@@ -1,25 +1,20 @@
-use Rattle.std.proofs.Common.{drop, refl, ap, ◌∙◌, arith}
-use Rattle.std.proofs.lemmas.List.{drop-set-lt}
-use Rattle.layout.proofs.Opens.{closed_none, closed_more, closed_all, closed_next}
+use Rattle.std.proofs.Common.{rules, ℕ, ◌+◌, ◌<◌, ◌≤◌, length, get_or, sym, subst, arith}
+use Rattle.layout.specs.Open.{blank, Follows}
+use Rattle.terms.specs.Layout.{onward}
+use Rattle.layout.proofs.Opens.{closed_to, closed_all, closed_next}
 use Rattle.layout.proofs.close.Goals as goal
 
-pub loop-top-init : goal.loop-top-init
-loop-top-init c = (refl, λ up e o. closed_none _ up _ e o)
-
-pub loop-top-preserved : goal.loop-top-preserved
-loop-top-preserved c =
-    (c.loop-top.invariant.0, λ up e o. closed_more _ up _ (omega arith) c.if-walk-top-gt1.false (c.loop-top.invariant.1 up e o))
-
-pub returns-then-walk-top-gt1 : goal.returns-then-walk-top-gt1
-returns-then-walk-top-gt1 c =
-    record {
-      follows = λ up e o. closed_next _ up _ (omega arith) (omega arith) c.if-walk-top-gt1.true (c.loop-top.invariant.1 up e o);
-      past = drop-set-lt c.args.height _ _ _ (omega arith) ∙ ap (drop c.args.height) c.loop-top.invariant.0;
-    }
+pub returns-in_err-top : goal.returns-in_err-top
+returns-in_err-top c =
+    λ up e h.
+    let few : (k : ℕ) → k < length c.args.walk.now → (get_or c.args.walk.now k blank).left ≤ 1 = search rules in
+    subst (Follows c.args.walk.now (onward up)) (sym c.from_residual.ensures) (closed_all _ up (closed_to _ up 0 (omega arith) h (λ k a b. few k (omega arith))))
 
 pub returns : goal.returns
 returns c =
-    record {
-      follows = λ up e o. closed_all _ up _ c.loop-top-test.false (c.loop-top.invariant.1 up e o);
-      past = ap (drop c.args.height) c.loop-top.invariant.0;
-    }
+    λ up e h.
+    let top = c.in_ok-top.top in
+    let within : top < length c.args.walk.now = search rules in
+    let more : 1 < (get_or c.args.walk.now top blank).left = search rules in
+    let few : (k : ℕ) → top + 1 ≤ k → k < length c.args.walk.now → (get_or c.args.walk.now k blank).left ≤ 1 = search rules in
+    closed_next _ up top within more (closed_to _ up (top + 1) (omega arith) h (λ k a b. few k a (omega arith)))
