@@ -1,9 +1,9 @@
 -- The two sides of a program rule, and what makes its cells one. Assumes nothing.
-use Rattle.std.proofs.Common.{◌≡◌, ℕ, ◌+◌, ◌-◌, ◌*◌, ◌^◌, ◌<◌, ◌≤◌, Bool, true, false, cond, eqb, ltb, List, [], ◌∷◌, ◌++◌, length, get_or, take, drop, is_some, Some, None, Decides, Option, sym, refl, ap, ◌∙◌, subst, inl, inr, append-nil, arith, length-append, length-drop}
+use Rattle.std.proofs.Common.{◌≡◌, ℕ, ◌+◌, ◌-◌, ◌*◌, ◌^◌, ◌<◌, ◌≤◌, Bool, true, false, cond, ltb, List, [], ◌∷◌, ◌++◌, length, get_or, take, drop, is_some, Some, None, Decides, Option, sym, refl, ap, ◌∙◌, subst, append-nil, arith, length-append, length-drop}
 use Rattle.std.proofs.lemmas.Bool.Decides.{nat_tests}
 use Rattle.std.proofs.lemmas.List.{drop-drop, drop_at, take_at, take_all}
 use Rattle.terms.specs.Cells.{kind, binder, children, zeros, payload, cell}
-use Rattle.terms.specs.Lists.{In, count}
+use Rattle.terms.specs.Lists.{count}
 use Rattle.terms.specs.Rows.{Row, flat, size, width, ◌&◌, fvs, Free, Counted, Layout}
 use Rattle.terms.specs.Rows.Row.{none, node}
 use Rattle.terms.specs.Terms.{TreeOf, Laid}
@@ -18,6 +18,7 @@ use Rattle.terms.proofs.Skips.{halves}
 use Rattle.lets.specs.Syntax.{admits, kids, arrow, Lawful, Term}
 use Rattle.lets.specs.Syntax.Sort.{term, rule, left}
 use Rattle.lets.specs.Checks.{Admitted, LeftCells, payloads, EachOnce, Numbered, Bounded, RuleCells}
+use Rattle.lets.proofs.Unique.{count_in}
 use Rattle.lets.proofs.Sides.{cells_term, term_cells, cells_left, left_cells_of, left_frees}
 
 -- the one cell that a rule begins with
@@ -131,17 +132,8 @@ module _ (cells : List ℕ) (lay : Laid cells) where
           reads = sym (flat-& v.a v.b) ∙ ap flat (sym v.is) ∙ sym (append-nil (flat t.0)) ∙ ap (drop 1) is.reads;
         })
 
--- what is counted is there
-pub count_in : (x : ℕ) (xs : List ℕ) → 1 ≤ count x xs → In x xs
-count_in x [] h = absurd (omega arith)
-count_in x (y ∷ xs) h = go (eqb x y) refl h (count_in x xs)
-  where
-    go : (b : Bool) → eqb x y ≡ b → 1 ≤ cond b 1 0 + count x xs → (1 ≤ count x xs → In x xs) → In x (y ∷ xs)
-    go true e k ih = inl (grind (arith, nat_tests))
-    go false e k ih = inr (ih (omega arith))
-
 -- A rule has no more than 1,024 variables on its left.
-few_variables : (l r : Row) → EachOnce (fvs l) → Layout (arrow l r) → length (fvs l) ≤ 1024
+pub few_variables : (l r : Row) → EachOnce (fvs l) → Layout (arrow l r) → length (fvs l) ≤ 1024
 few_variables l r once lay = go (ltb 1024 (length (fvs l))) refl
   where
     go : (b : Bool) → ltb 1024 (length (fvs l)) ≡ b → length (fvs l) ≤ 1024

@@ -1,9 +1,8 @@
 -- Counting the variables of a left side, and marking their payloads as seen. Assumes nothing.
-use Rattle.std.proofs.Common.{◌≡◌, ℕ, zero, suc, ◌+◌, ◌<◌, ◌≤◌, Bool, true, false, cond, not, eqb, ltb, ◌≢◌, List, [], ◌∷◌, ◌++◌, length, get_or, take, drop, set, replicate, Some, None, sym, refl, ap, ◌∙◌, append-nil, arith, length-append, length-set, take-append-drop, get_or-set_other, get_or-set_same}
-use mathlib.Core.Bool.{beq}
+use Rattle.std.proofs.Common.{◌≡◌, ℕ, zero, suc, ◌+◌, ◌<◌, ◌≤◌, Bool, true, false, cond, eqb, ltb, ◌≢◌, List, [], ◌∷◌, ◌++◌, length, get_or, take, drop, set, replicate, None, sym, refl, ap, ◌∙◌, append-nil, arith, length-append, length-set, take-append-drop, get_or-set_other, get_or-set_same}
 use lib.ListN.{length-replicate}
 use Rattle.std.proofs.lemmas.Bool.Decides.{nat_tests}
-use Rattle.std.proofs.lemmas.List.{take_more, take_all}
+use Rattle.std.proofs.lemmas.List.{take_more}
 use Rattle.terms.specs.Cells.{kind, payload}
 use Rattle.terms.specs.Lists.{count}
 use Rattle.lets.specs.Checks.{payloads, Numbered}
@@ -116,49 +115,3 @@ seen_none cells =
     unseen zero x = refl
     unseen (suc m) zero = refl
     unseen (suc m) (suc x) = unseen m x
-
--- All cells are counted.
-module _ (cells : List ℕ) (n : ℕ) (seen : List Bool) (s : Seen cells (length cells) n seen) where
-  all_cells : take (length cells) cells ≡ cells
-  all_cells = take_all (length cells) cells (omega arith)
-
-  number : n ≡ length (payloads cells)
-  number = s.counted ∙ ap (λ l. length (payloads l)) all_cells
-
-  -- there are too many, or one is missing or too large
-  pub not_few : 1024 < n → Numbered cells None
-  not_few l few once = absurd (omega (arith, number))
-
-  pub not_all : (x : ℕ) → x < 1024 → (get_or seen x false ≡ ltb x n → ⊥) → Numbered cells None
-  not_all x l f few once =
-      f (same (get_or seen x false) (ltb x n) (sym (s.marks x l) ∙ ap (λ c. count x (payloads c)) all_cells ∙ once x ∙ ap (λ m. one_if (ltb x m)) (sym number)))
-    where
-      same : (a b : Bool) → one_if a ≡ one_if b → a ≡ b
-      same true true e = refl
-      same true false e = absurd (omega (arith, e))
-      same false true e = absurd (omega (arith, e))
-      same false false e = refl
-
-  -- or all is well
-  pub numbered : n ≤ 1024 → ((x : ℕ) → x < 1024 → get_or seen x false ≡ ltb x n) → Numbered cells (Some n)
-  numbered l f = (number, l, λ x. go x (ltb x 1024) refl)
-    where
-      total : (x : ℕ) → count x (payloads (take (length cells) cells)) ≡ count x (payloads cells)
-      total x = ap (λ c. count x (payloads c)) all_cells
-
-      go : (x : ℕ) (b : Bool) → ltb x 1024 ≡ b → count x (payloads cells) ≡ one_if (ltb x (length (payloads cells)))
-      go x true e =
-          let low : x < 1024 = grind (arith, nat_tests) in
-          sym (total x) ∙ s.marks x low ∙ ap one_if (f x low) ∙ ap (λ m. one_if (ltb x m)) number
-      go x false e =
-          let high : 1024 ≤ x = grind (arith, nat_tests) in
-          let m = number in
-          let z : ltb x (length (payloads cells)) ≡ false = grind (arith, nat_tests) in
-          sym (total x) ∙ s.low x high ∙ ap one_if (sym z)
-
--- a test that two answers differ
-pub differ : (a b : Bool) → not (beq a b) ≡ true → a ≡ b → ⊥
-differ true true n e = let z : ◌≡◌ {A = ℕ} 0 1 = cc n in omega arith
-differ true false n e = let z : ◌≡◌ {A = ℕ} 0 1 = cc e in omega arith
-differ false true n e = let z : ◌≡◌ {A = ℕ} 0 1 = cc e in omega arith
-differ false false n e = let z : ◌≡◌ {A = ℕ} 0 1 = cc n in omega arith

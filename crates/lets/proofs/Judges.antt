@@ -24,10 +24,6 @@ pub term_kids : (c : ℕ) → kids term c ≡ replicate (children c) term
 unfolding kids
 term_kids c = refl
 
-pub rule_kids : (c : ℕ) → kids rule c ≡ left ∷ term ∷ []
-unfolding kids
-rule_kids c = refl
-
 pub left_kids : (c : ℕ) → kids left c ≡ replicate (children c) pattern
 unfolding kids
 left_kids c = refl

@@ -6,6 +6,7 @@ use Rattle.terms.specs.Cells.{kind, children, payload, cell}
 use Rattle.terms.specs.Rows.{Row, size, width, ◌&◌, var, above, Free, Below, raise, instead, beyond}
 use Rattle.terms.specs.Rows.Row.{none, node}
 use Rattle.calculus.specs.Line.{Gives}
+use Rattle.terms.proofs.Bridge.{size-&}
 use Rattle.terms.proofs.Inject.{lawful_width}
 use Rattle.terms.proofs.Moves.{Low, rename_frees, rename_lawful, substitute_frees, substitute_lawful, free_word, free_var, in_row, in_kids, in_own, in_next, under_more, under_less, frees_first, last, Every}
 use Rattle.lets.specs.Syntax.{Sort, let_in, admits, kids, Lawful, Term}
@@ -15,7 +16,7 @@ use Rattle.lets.specs.Laws.{SomeLaws}
 use Rattle.lets.proofs.Within.{FirstWithin, SecondWithin, first_held, second_held}
 
 -- a variable's payload does not matter
-variables : (s : Sort) (c p : ℕ) → kind c ≡ 0 → admits s c ≡ true → p < 2 ^ 32 → (admits s (cell 0 0 0 p) ≡ true) × (kids s (cell 0 0 0 p) ≡ kids s c)
+pub variables : (s : Sort) (c p : ℕ) → kind c ≡ 0 → admits s c ≡ true → p < 2 ^ 32 → (admits s (cell 0 0 0 p) ≡ true) × (kids s (cell 0 0 0 p) ≡ kids s c)
 unfolding admits kids
 variables term c p k a l = let z : children (cell 0 0 0 p) ≡ children c = grind (arith, nat_tests) in (grind (arith, nat_tests), ap (λ n. replicate n term) z)
 variables rule c p k a l = absurd (grind (arith, nat_tests))
@@ -29,34 +30,30 @@ leaf rule c a k = grind (arith, nat_tests)
 leaf left c a k = grind (arith, nat_tests)
 leaf pattern c a k = grind (arith, nat_tests)
 
-lows : (m : ℕ) (ss : List Sort) (t : Row) → Lawful ss t → Below m t → Low m t
+pub lows : (m : ℕ) (ss : List Sort) (t : Row) → Lawful ss t → Below m t → Low m t
 lows m [] none h b = tt
 lows m [] (node c ks r) h b = absurd h
 lows m (s ∷ ss) none h b = absurd h
 lows m (s ∷ ss) (node c ks r) h b = (λ k. let e = leaf s c h.0 k in let q = b.0 k in omega (arith, e, q), lows m (kids s c) ks h.1 b.1, lows m ss r h.2 b.2)
 
-below-& : (m : ℕ) (a b : Row) → Below m (a & b) → Below m a × Below m b
+pub below-& : (m : ℕ) (a b : Row) → Below m (a & b) → Below m a × Below m b
 below-& m none b h = (tt, h)
 below-& m (node c ks r) b h = let q = below-& m r b h.2 in ((h.0, h.1, q.0), q.1)
-
-size-& : (a b : Row) → size (a & b) ≡ size a + size b
-size-& none b = omega arith
-size-& (node c ks r) b = omega (arith, size-& r b)
 
 pub beside : (s : Sort) (ss : List Sort) (p t : Row) → Lawful (s ∷ []) p → Lawful ss t → Lawful (s ∷ ss) (p & t)
 beside s ss none t h k = absurd h
 beside s ss (node c ks none) t h k = (h.0, h.1, k)
 beside s ss (node c ks (node d js r)) t h k = absurd h.2
 
-one_wide : (t : Row) → Term t → width t ≡ 1
+pub one_wide : (t : Row) → Term t → width t ≡ 1
 one_wide t h = lawful_width admits kids (term ∷ []) t h
 
-let_term : (a e : Row) → Term a → Term e → Term (let_in a e)
+pub let_term : (a e : Row) → Term a → Term e → Term (let_in a e)
 unfolding admits kids
 let_term a e h k = (refl, beside term (term ∷ []) a e h k, tt)
 
 -- the free variables of a let
-let_free : (x : ℕ) (a e : Row) → Term a → Term e → Free x (let_in a e) → Free x a ⊎ Free (x + 1) e
+pub let_free : (x : ℕ) (a e : Row) → Term a → Term e → Free x (let_in a e) → Free x a ⊎ Free (x + 1) e
 let_free x a e h k f =
     ⊎_elim
     (λ o. absurd o)
@@ -77,7 +74,7 @@ let_bound x (node c ks none) (node d js r) h k f =
     in_kids x 0 0 (cell 35 1 2 0) (node c ks (node d js r)) none
     (⊎_elim (in_own x 0 1 c ks (node d js r)) (λ q. ⊎_elim (in_kids x 0 1 c ks (node d js r)) (λ i. absurd i) q) (in_row x 0 0 c ks none f))
 
-let_body : (x : ℕ) (a e : Row) → Term a → Term e → Free (x + 1) e → Free x (let_in a e)
+pub let_body : (x : ℕ) (a e : Row) → Term a → Term e → Free (x + 1) e → Free x (let_in a e)
 let_body x none e h k f = absurd h
 let_body x (node c ks (node d js r)) e h k f = absurd h.2
 let_body x (node c ks none) e h k f =

@@ -1,5 +1,5 @@
 -- Both laws for Elim, LetIn and Fapp, and for the whole figure.
-use Rattle.std.proofs.Common.{◌≡◌, ℕ, zero, suc, ◌+◌, ◌-◌, ◌^◌, ◌<◌, ◌≤◌, Bool, true, false, cond, eqb, ltb, leb, ◌⊎◌, List, [], ◌∷◌, length, get_or, replicate, sym, refl, ap, ◌∙◌, subst, ap₂, inl, inr, ⊎_elim, arith}
+use Rattle.std.proofs.Common.{◌≡◌, ℕ, zero, suc, ◌+◌, ◌-◌, ◌^◌, ◌<◌, ◌≤◌, Bool, true, false, cond, eqb, ltb, leb, List, [], ◌∷◌, length, get_or, replicate, sym, refl, ap, ◌∙◌, subst, ap₂, ⊎_elim, arith}
 use Rattle.std.proofs.lemmas.Bool.Decides.{nat_tests}
 use Rattle.terms.specs.Lists.{In, count}
 use Rattle.terms.specs.Cells.{kind, binder, children, payload, cell, loose}
@@ -9,69 +9,16 @@ use Rattle.terms.specs.Grammar.{At}
 use Rattle.calculus.specs.Line.{Gives}
 use Rattle.terms.proofs.Inject.{lawful_width, inj-&, under, width-&}
 use Rattle.terms.proofs.Bridge.{substitute_size}
-use Rattle.terms.proofs.Moves.{Low, Every, rename_frees, rename_lawful, substitute_frees, substitute_lawful, free_var, free-&, free_left, free_right, plain_in, plain_out, in_row, in_kids, in_own, in_next, own_is, is_own, under_more, under_less, frees_first, last, ground, above_le}
-use Rattle.lets.specs.Syntax.{Sort, fun, let_in, arrow, admits, kids, Lawful, Term, Terms, Site, ProgramRule, ProgramRules}
-use Rattle.lets.specs.Syntax.Sort.{term, rule, left, pattern}
+use Rattle.terms.proofs.Moves.{Low, Every, rename_frees, rename_lawful, substitute_frees, substitute_lawful, free_var, free-&, free_left, free_right, plain_in, plain_out, in_row, in_kids, in_own, in_next, own_is, is_own, ground, above_le}
+use Rattle.lets.specs.Syntax.{Sort, fun, arrow, admits, kids, Lawful, Term, Terms, Site, ProgramRules}
+use Rattle.lets.specs.Syntax.Sort.{term, left}
 use Rattle.lets.specs.Figure.{Rule, Match, binding, figure, line, Called}
 use Rattle.lets.specs.Laws.{Held, FirstOf, SecondOf, FirstLaw, SecondLaw}
 use Rattle.lets.specs.Meaning.{KeepsLaws}
 use Rattle.lets.proofs.Within.{Within, FirstWithin, SecondWithin, first_held, second_held, first_short, second_short}
 use Rattle.lets.proofs.Meaning.{suffices, formed}
-use Rattle.lets.proofs.Laws.{leaf, instead_wide, bind_first, bind_second, body_size, flat_first, flat_second}
-use Rattle.lets.proofs.Unique.{Flat, flat}
-
--- a variable's payload does not matter
-pub variables : (s : Sort) (c p : ℕ) → kind c ≡ 0 → admits s c ≡ true → p < 2 ^ 32 → (admits s (cell 0 0 0 p) ≡ true) × (kids s (cell 0 0 0 p) ≡ kids s c)
-unfolding admits kids
-variables term c p k a l = let z : children (cell 0 0 0 p) ≡ children c = grind (arith, nat_tests) in (grind (arith, nat_tests), ap (λ n. replicate n term) z)
-variables rule c p k a l = absurd (grind (arith, nat_tests))
-variables left c p k a l = absurd (grind (arith, nat_tests))
-variables pattern c p k a l = let z : children (cell 0 0 0 p) ≡ children c = grind (arith, nat_tests) in (grind (arith, nat_tests), ap (λ n. replicate n pattern) z)
-
-pub lows : (m : ℕ) (ss : List Sort) (t : Row) → Lawful ss t → Below m t → Low m t
-lows m [] none h b = tt
-lows m [] (node c ks r) h b = absurd h
-lows m (s ∷ ss) none h b = absurd h
-lows m (s ∷ ss) (node c ks r) h b = (λ k. let e = leaf s c h.0 k in let q = b.0 k in omega (arith, e, q), lows m (kids s c) ks h.1 b.1, lows m ss r h.2 b.2)
-
-pub below-& : (m : ℕ) (a b : Row) → Below m (a & b) → Below m a × Below m b
-below-& m none b h = (tt, h)
-below-& m (node c ks r) b h = let q = below-& m r b h.2 in ((h.0, h.1, q.0), q.1)
-
-pub size-& : (a b : Row) → size (a & b) ≡ size a + size b
-size-& none b = omega arith
-size-& (node c ks r) b = omega (arith, size-& r b)
-
-pub beside : (s : Sort) (ss : List Sort) (p t : Row) → Lawful (s ∷ []) p → Lawful ss t → Lawful (s ∷ ss) (p & t)
-beside s ss none t h k = absurd h
-beside s ss (node c ks none) t h k = (h.0, h.1, k)
-beside s ss (node c ks (node d js r)) t h k = absurd h.2
-
-pub one_wide : (t : Row) → Term t → width t ≡ 1
-one_wide t h = lawful_width admits kids (term ∷ []) t h
-
-let_term : (a e : Row) → Term a → Term e → Term (let_in a e)
-unfolding admits kids
-let_term a e h k = (refl, beside term (term ∷ []) a e h k, tt)
-
-let_free : (x : ℕ) (a e : Row) → Term a → Term e → Free x (let_in a e) → Free x a ⊎ Free (x + 1) e
-let_free x a e h k f =
-    ⊎_elim
-    (λ o. absurd o)
-    (λ q. ⊎_elim
-    (λ i. ⊎_elim inl (λ j. inr (under_more x 1 0 0 e (subst (λ l. In x l) (last 0 1 e (one_wide e k)) j))) (frees_first x 0 1 0 a e (one_wide a h) (before e (one_wide e k)) i))
-    (λ i. absurd i) q)
-    (in_row x 0 0 (cell 35 1 2 0) (a & e) none f)
-  where
-    before : (e : Row) → width e ≡ 1 → above 0 1 e ≡ 0
-    before none w = absurd (omega arith)
-    before (node c ks r) w = refl
-
-let_body : (x : ℕ) (a e : Row) → Term a → Term e → Free (x + 1) e → Free x (let_in a e)
-let_body x none e h k f = absurd h
-let_body x (node c ks (node d js r)) e h k f = absurd h.2
-let_body x (node c ks none) e h k f =
-    in_kids x 0 0 (cell 35 1 2 0) (node c ks e) none (in_next x 0 1 c ks e (subst (λ l. In x l) (sym (last 0 1 e (one_wide e k))) (under_less x 1 0 0 e f)))
+use Rattle.lets.proofs.Laws.{leaf, one_wide, beside, variables, lows, below-&, let_body, let_free, let_term, instead_wide, bind_first, bind_second, body_size, flat_first, flat_second}
+use Rattle.lets.proofs.Unique.{count_in, rule_of, left_cell, Flat, flat}
 
 -- renaming of rows by a function that adds at most 1
 module _ (f : ℕ → ℕ) (grows : (n : ℕ) → f n ≤ n + 1) (ss : List Sort) (v : Row) (l : Lawful ss v) (b : Below 65535 v) where
@@ -282,23 +229,6 @@ some_node c ks r e = let p : ◌≡◌ {A = ℕ} 1 0 = ap one_or_none e in omega
     one_or_none none = 0
     one_or_none (node c ks r) = 1
 
-rule_of : (program : Row) (i : ℕ) (t : Row) → ProgramRules program → pick program i [] ≡ t → (t ≡ none → ⊥) → ProgramRule t
-rule_of none i t h e n = absurd (n (sym e))
-rule_of (node c ks r) zero t h e n = subst ProgramRule e h.0
-rule_of (node c ks r) (suc i) t h e n = rule_of r i t h.1 e n
-
-left_cell : (c : ℕ) → admits left c ≡ true → (binder c ≡ 0) × (kind c ≡ 33)
-unfolding admits
-left_cell c h = (grind (arith, nat_tests), grind (arith, nat_tests))
-
-occurs : (x : ℕ) (l : List ℕ) → 1 ≤ count x l → In x l
-occurs x [] h = absurd (omega arith)
-occurs x (y ∷ l) h = go (eqb x y) refl (occurs x l) h
-  where
-    go : (q : Bool) → eqb x y ≡ q → (1 ≤ count x l → In x l) → 1 ≤ cond q 1 0 + count x l → In x (y ∷ l)
-    go true e ih k = inl (grind (arith, nat_tests))
-    go false e ih k = inr (ih (omega arith))
-
 -- what a program rule f(p) → r says
 pub record Rewrites (f : ℕ) (p r : Row) : Type 0 where
   pub plainly : Flat p
@@ -307,9 +237,6 @@ pub record Rewrites (f : ℕ) (p r : Row) : Type 0 where
   pub small : size r ≤ 2048
   pub every : (x : ℕ) → x < length (fvs (fun f p)) → In x (fvs p)
   pub only : (x : ℕ) → Free x r → x < length (fvs (fun f p))
-
-size_of : (a b : Row) → size b ≤ size (a & b)
-size_of a b = omega (arith, size-& a b)
 
 pub rewrites : (program : Row) (argument f : ℕ) (p r : Row) → ProgramRules program → pick program argument [] ≡ arrow (fun f p) r → Rewrites f p r
 unfolding kids
@@ -332,7 +259,7 @@ rewrites program argument f p r rules e =
           ⊎_elim
           (λ o. absurd (let q = (own_is x 0 (cell 33 0 (width p) f) o).0 in omega (arith, q, lc.1)))
           (λ u. ⊎_elim (λ o. subst (λ z. In x (frees 0 z p)) lc.0 o) (λ o. absurd o) u)
-          (in_row x 0 0 (cell 33 0 (width p) f) p none (occurs x (fvs (fun f p)) k));
+          (in_row x 0 0 (cell 33 0 (width p) f) p none (count_in x (fvs (fun f p)) k));
       only = λ x i. subst (λ u. x < length (fvs u)) both.0 (pr.below x (subst (Free x) (sym both.1) i));
     }
 
@@ -525,4 +452,4 @@ first_law program whole place n argument inner u rules h s g =
     w.1 u (first_of n program argument (pick whole 0 place) u rules held g.2)
 
 pub second_law : SecondLaw
-second_law program n argument inner t u rules h g = second_of n program argument t u rules h g.2
+second_law program n argument _ t u rules h g = second_of n program argument t u rules h g.2

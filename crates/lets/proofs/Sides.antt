@@ -1,23 +1,26 @@
 -- The sides of a program rule, told by their cells. Assumes nothing.
-use Rattle.std.proofs.Common.{◌≡◌, ℕ, zero, suc, ◌-◌, ◌<◌, Bool, true, false, cond, eqb, List, [], ◌∷◌, ◌++◌, length, get_or, take, drop, replicate, Decides, sym, refl, ap, ◌∙◌, subst, append-nil, arith}
+use Rattle.std.proofs.Common.{◌≡◌, ℕ, zero, suc, ◌-◌, Bool, true, false, cond, ◌&&◌, eqb, List, [], ◌∷◌, ◌++◌, replicate, Decides, sym, refl, ap, ◌∙◌, subst, append-nil, arith}
 use Rattle.std.proofs.lemmas.Bool.Decides.{nat_tests}
-use Rattle.std.proofs.lemmas.List.{take_all}
+use Rattle.std.specs.List.{list_all}
 use Rattle.terms.specs.Cells.{kind, binder, children, payload, loose}
 use Rattle.terms.specs.Rows.{Row, flat, width, above, own, frees, fvs, Counted}
 use Rattle.terms.specs.Rows.Row.{none, node}
+use Rattle.terms.proofs.Deciding.{contrary}
 use Rattle.terms.proofs.Moves.{ground}
 use Rattle.terms.proofs.Uniform.{admitted_lawful, lawful_admitted}
-use Rattle.lets.specs.Syntax.{admits, kids, Lawful, Term}
+use Rattle.lets.specs.Syntax.{Sort, admits, kids, Lawful, Term}
 use Rattle.lets.specs.Syntax.Sort.{term, left, pattern}
 use Rattle.lets.specs.Checks.{Admitted, LeftCells, payloads}
 use Rattle.lets.proofs.Judges.{term_kids, left_kids, pattern_kids}
 
--- the first cell of a left side, and the others
-pub left_cells : (cells : List ℕ) (r : Bool) → 0 < length cells → admits left (get_or cells 0 0) ≡ true → Decides r (Admitted pattern (take (length cells - 1) (drop 1 cells))) → Decides r (LeftCells cells)
-left_cells [] r h a d = absurd (omega arith)
-left_cells (c ∷ cells) r h a d =
-    let e : take (suc (length cells) - 1) cells ≡ cells = take_all (suc (length cells) - 1) cells (omega arith) in
-    (λ t. (a, subst (Admitted pattern) e (d.0 t)), λ l. d.1 (subst (Admitted pattern) (sym e) l.1))
+-- each of the cells passes the test of a sort
+pub admitted_all : (s : Sort) (cells : List ℕ) (r : Bool) → r ≡ list_all (admits s) cells → Decides r (Admitted s cells)
+admitted_all s [] r e = (λ q. tt, λ a. e)
+admitted_all s (c ∷ cells) r e = go (admits s c) refl e (admitted_all s cells r)
+  where
+    go : (b : Bool) → admits s c ≡ b → r ≡ (b && list_all (admits s) cells) → (r ≡ list_all (admits s) cells → Decides r (Admitted s cells)) → Decides r (Admitted s (c ∷ cells))
+    go true q e d = (λ t. (q, (d e).0 t), λ a. (d e).1 a.1)
+    go false q e d = (λ t. absurd (contrary t e), λ a. absurd (contrary a.0 q))
 
 -- One counted tree is a term exactly where a term may begin with each of its cells,
 pub cells_term : (t : Row) → width t ≡ 1 → Counted t → Admitted term (flat t) → Term t

@@ -22,9 +22,9 @@ wide : (t u : Row) → Term t → Term u → width t ≡ width u
 wide t u h k = lawful_width admits kids (term ∷ []) t h ∙ sym (lawful_width admits kids (term ∷ []) u k)
 
 -- what counts is there
-counted : (x : ℕ) (l : List ℕ) → 1 ≤ count x l → In x l
-counted x [] h = absurd (omega arith)
-counted x (y ∷ l) h = go (eqb x y) refl (counted x l) h
+pub count_in : (x : ℕ) (l : List ℕ) → 1 ≤ count x l → In x l
+count_in x [] h = absurd (omega arith)
+count_in x (y ∷ l) h = go (eqb x y) refl (count_in x l) h
   where
     go : (q : Bool) → eqb x y ≡ q → (1 ≤ count x l → In x l) → 1 ≤ cond q 1 0 + count x l → In x (y ∷ l)
     go true e ih k = inl (grind (arith, nat_tests))
@@ -35,7 +35,7 @@ abbrev pub Flat : Row → Type 0
 Flat none = Unit {0}
 Flat (node c ks r) = (binder c ≡ 0) × (kind c ≡ 0 → ks ≡ none) × Flat ks × Flat r
 
-pattern_cell : (c : ℕ) → admits pattern c ≡ true → (binder c ≡ 0) × (kind c ≡ 0 → children c ≡ 0)
+pub pattern_cell : (c : ℕ) → admits pattern c ≡ true → (binder c ≡ 0) × (kind c ≡ 0 → children c ≡ 0)
 unfolding admits
 pattern_cell c h = (grind (arith, nat_tests), λ k. grind (arith, nat_tests))
 
@@ -77,7 +77,7 @@ bind_same x a b (node c ks r) (node d js s) f m n i =
     deep false e v w ih o = ih v.1 w.1 o
 
 -- rows with the same trees
-rows_same : (a b : Row) → width a ≡ width b → ((x : ℕ) → x < width a → pick a x [] ≡ pick b x []) → a ≡ b
+pub rows_same : (a b : Row) → width a ≡ width b → ((x : ℕ) → x < width a → pick a x [] ≡ pick b x []) → a ≡ b
 rows_same none none w h = refl
 rows_same none (node d js s) w h = absurd (omega arith)
 rows_same (node c ks r) none w h = absurd (omega arith)
@@ -89,12 +89,12 @@ rows_same (node c ks r) (node d js s) w h =
     cc (x, y, q)
 
 -- the rule that is numbered
-rule_of : (program : Row) (i : ℕ) (t : Row) → ProgramRules program → pick program i [] ≡ t → (t ≡ none → ⊥) → ProgramRule t
+pub rule_of : (program : Row) (i : ℕ) (t : Row) → ProgramRules program → pick program i [] ≡ t → (t ≡ none → ⊥) → ProgramRule t
 rule_of none i t h e n = absurd (n (sym e))
 rule_of (node c ks r) zero t h e n = subst ProgramRule e h.0
 rule_of (node c ks r) (suc i) t h e n = rule_of r i t h.1 e n
 
-left_cell : (c : ℕ) → admits left c ≡ true → (binder c ≡ 0) × (kind c ≡ 33)
+pub left_cell : (c : ℕ) → admits left c ≡ true → (binder c ≡ 0) × (kind c ≡ 33)
 unfolding admits
 left_cell c h = (grind (arith, nat_tests), grind (arith, nat_tests))
 
@@ -130,7 +130,7 @@ module _ (program : Row) (rules : ProgramRules program) where
       let n : x < length (fvs (fun l.f l.p)) = subst (λ k. x < k) l.bound h in
       let c = subst (λ u. count x (fvs u) ≡ cond (ltb x (length (fvs u))) 1 0) le (pr.once x) in
       let k : 1 ≤ count x (fvs (fun l.f l.p)) = grind (arith, nat_tests, c, n) in
-      let i = counted x (fvs (fun l.f l.p)) k in
+      let i = count_in x (fvs (fun l.f l.p)) k in
       bind_same x l.θ m.θ l.p l.ts fl l.matched mm
       (⊎_elim
       (λ o. absurd (let q = (own_is x 0 (cell 33 0 (width l.p) l.f) o).0 in omega (arith, q, lc.1)))

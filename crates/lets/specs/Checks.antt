@@ -1,5 +1,5 @@
 -- What is asked of a program, of its rules and of their two sides, over cells.
-use Rattle.std.specs.Prelude.{◌≡◌, ℕ, ◌+◌, ◌<◌, ◌≤◌, true, cond, List, [], ◌∷◌, ◌++◌, length, drop, Some, None, Option, ◌==◌, ◌≢◌, nat_lt}
+use Rattle.std.specs.Prelude.{◌≡◌, ℕ, ◌+◌, ◌<◌, ◌≤◌, true, cond, List, [], ◌∷◌, ◌++◌, length, Some, None, Option, ◌==◌, ◌≢◌, nat_lt}
 use Rattle.terms.specs.Cells.{kind, payload}
 use Rattle.terms.specs.Lists.{In, All, count}
 use Rattle.terms.specs.Rows.{Row, flat, size, frees}
@@ -45,10 +45,12 @@ pub record RuleCells (cells : List ℕ) : Type 0 where
   pub rule : ProgramRule row
   pub reads : flat row ≡ cells
 
--- where a program rule that stands at a cell ends, if one does
-abbrev pub RuleEnds : List ℕ → ℕ → Option ℕ → Type 0
-RuleEnds cells at (Some e) = (t : Row) × ProgramRule t × (e ≡ at + size t) × (flat t ++ drop e cells ≡ drop at cells)
-RuleEnds cells at None = (t : Row) (l : List ℕ) → ProgramRule t → flat t ++ l ≢ drop at cells
+-- the cells begin with a program rule, and these stand behind it; or they begin with none
+abbrev pub RuleFirst : (cells rest : List ℕ) → Type 0
+RuleFirst cells rest = (t : Row) × ProgramRule t × (flat t ++ rest ≡ cells)
+
+abbrev pub NoRuleFirst : List ℕ → Type 0
+NoRuleFirst cells = (t : Row) (l : List ℕ) → ProgramRule t → flat t ++ l ≢ cells
 
 -- The cells are a program, or their first bad rule.
 abbrev pub ProgramChecked : List ℕ → Option ℕ → Type 0

@@ -1,3 +1,4 @@
+pub mod Kinds
 pub mod Syntax
 pub mod Figure
 pub mod Examples

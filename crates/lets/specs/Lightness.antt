@@ -1,8 +1,7 @@
 -- Light terms, told by their cells one by one.
-use Rattle.std.specs.Prelude.{◌≡◌, ℕ, ◌+◌, Bool, true, ◌&&◌, ◌||◌, List, [], ◌∷◌, replicate, ◌==◌}
+use Rattle.std.specs.Prelude.{◌≡◌, ℕ, Bool, ◌||◌, List, replicate, ◌==◌}
 use Rattle.terms.specs.Cells.{kind}
-use Rattle.terms.specs.Rows.{Row, size}
-use Rattle.terms.specs.Standing.{Stands}
+use Rattle.terms.specs.Rows.{Row, flat}
 use Rattle.lets.specs.Syntax.{Lawful, light}
 use Rattle.lets.specs.Syntax.Sort.{term}
 
@@ -10,10 +9,6 @@ use Rattle.lets.specs.Syntax.Sort.{term}
 abbrev pub light_cell : ℕ → Bool
 light_cell c = kind c == 0 || (kind c == 32 || kind c == 34)
 
-abbrev pub light_cells : List ℕ → Bool
-light_cells [] = true
-light_cells (c ∷ cs) = light_cell c && light_cells cs
-
--- of lawful terms side by side that stand from a cell to another: are they all light?
-abbrev pub LightAsked : List ℕ → ℕ → ℕ → Bool → Type 0
-LightAsked cells at end r = (n : ℕ) (t : Row) → Lawful (replicate n term) t → Stands t n cells at → end ≡ at + size t → r ≡ light t
+-- of lawful terms that cells spell side by side: are they all light?
+abbrev pub LightAsked : List ℕ → Bool → Type 0
+LightAsked cells r = (n : ℕ) (t : Row) → Lawful (replicate n term) t → flat t ≡ cells → r ≡ light t

@@ -6,6 +6,7 @@ ghost use Rattle.lets.specs.Laws.{FirstLaw, SecondLaw, Matching, OneAnswer, Some
 ghost use Rattle.lets.specs.Meaning.{KeepsLaws};
 
 pub mod judge;
+pub mod kind;
 pub mod light;
 pub mod program;
 pub mod rules;

@@ -1,16 +1,15 @@
 // Which cells are a program: up to 256 program rules, one after the other.
-ghost use Rattle.std.specs.Prelude.{◌≡◌, ◌+◌, ◌^◌, ◌<◌, ◌≤◌, Decides};
+ghost use Rattle.std.specs.Prelude.{◌≡◌, ◌+◌, ◌^◌, ◌<◌, ◌≤◌, Decides, MatchOption};
 ghost use Rattle.terms.specs.Cells.{kind, payload};
 ghost use Rattle.terms.specs.Terms.{Laid};
-ghost use Rattle.terms.specs.Rows.{Row};
-ghost use Rattle.terms.specs.Standing.{Stands};
-ghost use Rattle.lets.specs.Syntax.Sort.{term, pattern};
-ghost use Rattle.lets.specs.Checks.{Admitted, LeftCells, Numbered, Bounded, RuleCells, RuleEnds, ProgramChecked};
+ghost use Rattle.lets.specs.Checks.{LeftCells, Numbered, Bounded, RuleCells, NoRuleFirst, RuleFirst, ProgramChecked};
 
-use crate::sort::{VARIABLE, is_left_cell, is_pattern_cell, is_rule_cell, is_term_cell};
+use crate::kind::Kind;
+use crate::sort::{is_left_cell, is_pattern_cell, is_rule_cell, is_term_cell};
 use layout::{DEPTH_MOST, Walk, layout};
-use terms::cell::{binder, children, kind, payload};
+use terms::cell::{binder, kind, payload};
 use terms::extent::skip;
+use terms::forest::Trees;
 
 // The most rules of a program.
 pub const RULES_MOST: usize = 256;
@@ -18,53 +17,24 @@ pub const RULES_MOST: usize = 256;
 // The most variables of a left side.
 const VARIABLES_MOST: usize = 1024;
 
-// A walk record of no cell.
-const BLANK: Walk = Walk {
-    left: 0,
-    above: 0,
-    last: 0,
-};
-
 // Do the cells keep the layout?
 fn keeps_layout(cells: &[u64]) -> bool
     ensures { Decides result (Laid cells.now) }
 {
-    let mut walk = [BLANK; DEPTH_MOST];
+    let mut walk = [Walk::default(); DEPTH_MOST];
     layout(cells, &mut walk).is_ok()
-}
-
-// May a term begin with each of the cells?
-fn are_term_cells(cells: &[u64]) -> bool
-    ensures { Decides result (Admitted term cells.now) }
-{
-    for c in cells {
-        if !is_term_cell(*c) {
-            return false;
-        }
-    }
-    true
-}
-
-// May a pattern?
-fn are_pattern_cells(cells: &[u64]) -> bool
-    ensures { Decides result (Admitted pattern cells.now) }
-{
-    for c in cells {
-        if !is_pattern_cell(*c) {
-            return false;
-        }
-    }
-    true
 }
 
 // Are they a function over constructors and variables?
 fn are_left_cells(cells: &[u64]) -> bool
     ensures { Decides result (LeftCells cells.now) }
 {
-    if cells.is_empty() {
-        return false;
+    match cells.split_first() {
+        Some((head, patterns)) => {
+            is_left_cell(*head) && patterns.iter().all(|&c| is_pattern_cell(c))
+        }
+        None => false,
     }
-    is_left_cell(cells[0]) && are_pattern_cells(&cells[1..])
 }
 
 // How many variables the cells have, if their payloads are the numbers below that, each once.
@@ -74,12 +44,9 @@ fn variables(cells: &[u64]) -> Option<usize>
     let mut seen = [false; VARIABLES_MOST];
     let mut n = 0;
     for c in cells {
-        if kind(*c) == VARIABLE {
+        if kind(*c) == Kind::Variable as u8 {
             let x = payload(*c) as usize;
-            if x >= VARIABLES_MOST {
-                return None;
-            }
-            if seen[x] {
+            if *seen.get(x)? {
                 return None;
             }
             seen[x] = true;
@@ -89,8 +56,8 @@ fn variables(cells: &[u64]) -> Option<usize>
     if n > VARIABLES_MOST {
         return None;
     }
-    for x in 0..VARIABLES_MOST {
-        if seen[x] != (x < n) {
+    for (x, &marked) in seen.iter().enumerate() {
+        if marked != (x < n) {
             return None;
         }
     }
@@ -102,25 +69,23 @@ fn is_large(c: u64, above: u64, bound: u64) -> bool
     requires { above + bound < 2 ^ 64 }
     ensures { Decides result ((kind c ≡ 0) × (above + bound ≤ payload c)) }
 {
-    kind(c) == VARIABLE && payload(c) as u64 >= above + bound
+    kind(c) == Kind::Variable as u8 && payload(c) as u64 >= above + bound
 }
 
-// Where n trees end, `above` binders over each but the last and `more` over that, if their free numbers are below the bound.
-fn bounded(cells: &[u64], at: usize, n: usize, above: u64, more: u64, bound: u64) -> Option<usize>
-    requires row { (t : Row) × Stands t n cells.now at }
-    requires few { (above + more ≤ at) × (bound ≤ 1024) }
-    ensures { Bounded bound above more n cells.now at result }
+// Where trees end, `above` binders over each but the last and `more` over that, if their free numbers are below the bound.
+fn bounded(trees: Trees, above: u64, more: u64, bound: u64) -> Option<usize>
+    requires { (above + more ≤ trees.at) × (bound ≤ 1024) }
+    ensures { Bounded bound above more trees.entry.n trees.entry.cells.now trees.entry.at result }
 {
-    let mut end = at;
-    for i in 0..n {
-        let c = cells[end];
-        let over = if i + 1 == n { above + more } else { above };
+    let mut left = trees;
+    while let Some((c, below)) = left.first() {
+        let over = if left.n == 1 { above + more } else { above };
         if is_large(c, over, bound) {
             return None;
         }
-        end = bounded(cells, end + 1, children(c), over, binder(c), bound)?;
+        left = left.others(bounded(below, over, binder(c), bound)?);
     }
-    Some(end)
+    Some(left.at)
 }
 
 // Are the cells a program rule?
@@ -140,46 +105,43 @@ fn is_program_rule(cells: &[u64]) -> bool
     if !are_left_cells(left) {
         return false;
     }
-    if !are_term_cells(&cells[middle..]) {
+    if !cells[middle..].iter().all(|&c| is_term_cell(c)) {
         return false;
     }
     let Some(n) = variables(left) else {
         return false;
     };
-    bounded(cells, middle, 1, 0, 0, n as u64).is_some()
+    let right = Trees {
+        cells,
+        at: middle,
+        n: 1,
+    };
+    bounded(right, 0, 0, n as u64).is_some()
 }
 
-// Where the program rule at a cell ends, if one stands there.
-fn rule_end(cells: &[u64], at: usize) -> Option<usize>
-    ensures { RuleEnds cells.now at result }
+// What stands behind a program rule that the cells begin with, if they do.
+fn after_rule(cells: &[u64]) -> Option<&[u64]>
+    ensures { MatchOption result (NoRuleFirst cells.now) (λ rest. RuleFirst cells.now rest.now) }
 {
-    let end = skip(cells, at, 1)?;
-    if is_program_rule(&cells[at..end]) {
-        Some(end)
-    } else {
-        None
-    }
+    let (rule, rest) = cells.split_at(skip(cells, 0, 1)?);
+    is_program_rule(rule).then_some(rest)
 }
 
 // The number of the first rule that is no program rule or is number 256; none if the cells are a program.
 pub fn first_bad_rule(cells: &[u64]) -> Option<usize>
     ensures { ProgramChecked cells.now result }
 {
-    let mut at = 0;
+    let mut rest = cells;
     for number in 0..RULES_MOST {
-        if at == cells.len() {
+        if rest.is_empty() {
             return None;
         }
-        match rule_end(cells, at) {
-            Some(end) => at = end,
-            None => return Some(number),
-        }
+        let Some(after) = after_rule(rest) else {
+            return Some(number);
+        };
+        rest = after;
     }
-    if at == cells.len() {
-        None
-    } else {
-        Some(RULES_MOST)
-    }
+    (!rest.is_empty()).then_some(RULES_MOST)
 }
 
 #[cfg(test)]

@@ -1,5 +1,5 @@
 -- What the calculus is asked, by what its parts answer. Assumes nothing.
-use Rattle.std.proofs.Common.{◌≡◌, ℕ, zero, suc, ◌-◌, ◌<◌, Bool, true, eqb, List, [], ◌∷◌, length, take, drop, replicate, is_some, is_ok, Some, None, Ok, Err, Option, Result, sym, refl, subst, arith}
+use Rattle.std.proofs.Common.{◌≡◌, ℕ, zero, suc, ◌-◌, ◌<◌, ◌≤◌, ◌⊎◌, Bool, true, eqb, List, [], ◌∷◌, length, take, drop, replicate, is_some, is_ok, Some, None, Ok, Err, Option, Result, sym, refl, subst, inl, inr, arith}
 use Rattle.std.proofs.lemmas.Bool.Decides.{nat_tests}
 use Rattle.terms.specs.Rows.{Row, flat, Place, width}
 use Rattle.terms.specs.Rows.Row.{none, node}
@@ -14,12 +14,16 @@ use Rattle.calculus.specs.Answers.{SiteAsked}
 use Rattle.calculus.specs.Figures.{Spells}
 use Rattle.calculus.specs.Line.{Redex}
 use Rattle.lets.specs.Answers.{TermJudged}
+use Rattle.lets.specs.Figure.{HasRule}
 use Rattle.lets.specs.Meaning.{meaning}
 use Rattle.lets.specs.Owned.{RuleStands, RuleAsked}
 use Rattle.lets.specs.Syntax.{admits, kids, Lawful, Term}
 use Rattle.lets.specs.Syntax.Sort.{term}
 use Rattle.lets.proofs.Meaning.{formed}
 use Rattle.rewriting.specs.Matchings.{RuleOf}
+use Rattle.rewriting.specs.declared.rule.Rule.{Rule}
+use Rattle.rewriting.specs.declared.rule.Rule.TheVariants.{Fapp, LetIn, Bind, Elim, Flat}
+use Rattle.rewriting.specs.Rules.{number}
 
 -- cells that the judge lets pass are a lawful term
 pub judged_term : (cells : List ℕ) (r : Result (ℕ × ℕ) ℕ) → TermJudged cells r → true ≡ is_ok r → Spells Term cells
@@ -71,6 +75,19 @@ there_rule cells n None a h = absurd (omega (arith, a))
 -- its cells
 pub rule_of : {cells : List ℕ} {n start end : ℕ} → RuleStands cells n start end → RuleOf (trees cells) n (take (end - start) (drop start cells))
 rule_of s = (s.rule, sym (stands_cells s.stands _ (omega (arith, s.ended))))
+
+-- a rule has a number, and three of them have no argument
+pub has_rule : (rule : Rule) → HasRule (number rule)
+has_rule Fapp = (omega arith, omega arith)
+has_rule LetIn = (omega arith, omega arith)
+has_rule Bind = (omega arith, omega arith)
+has_rule Elim = (omega arith, omega arith)
+has_rule Flat = (omega arith, omega arith)
+
+pub no_argument : {rule : Rule} → (rule ≡ Bind) ⊎ (rule ≡ Elim) ⊎ (rule ≡ Flat) → 3 ≤ number rule
+no_argument (inl e) = subst (λ r. 3 ≤ number r) (sym e) (omega arith)
+no_argument (inr (inl e)) = subst (λ r. 3 ≤ number r) (sym e) (omega arith)
+no_argument (inr (inr e)) = subst (λ r. 3 ≤ number r) (sym e) (omega arith)
 
 -- no entries
 pub no_entries : (l : List ℕ) → true ≡ eqb (length l) 0 → l ≡ []

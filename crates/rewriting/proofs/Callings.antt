@@ -1,31 +1,30 @@
 -- A program rule and a redex: the rule's parts, where they stand, and when the redex is a call of it. Assumes nothing.
-use Rattle.std.proofs.Common.{◌≡◌, ℕ, ◌+◌, ◌-◌, ◌<◌, ◌≤◌, Bool, true, false, cond, ltb, ◌⊎◌, List, [], ◌∷◌, ◌++◌, length, get_or, take, drop, sym, refl, ap, ◌∙◌, subst, inl, inr, ⊎_elim, append-nil, arith}
+use Rattle.std.proofs.Common.{◌≡◌, ℕ, ◌+◌, ◌-◌, ◌<◌, ◌≤◌, true, false, cond, ◌⊎◌, List, [], ◌∷◌, ◌++◌, length, get_or, take, drop, sym, refl, ap, ◌∙◌, subst, inl, inr, ⊎_elim, append-nil, arith}
 use Rattle.std.proofs.lemmas.Bool.Decides.{nat_tests}
 use Rattle.terms.specs.Cells.{kind, binder, children, zeros, payload, cell, loose}
-use Rattle.terms.specs.Rows.{Row, flat, size, width, ◌&◌, frees, fvs, Free, Layout, Counted, substitute, pick}
+use Rattle.terms.specs.Rows.{Row, flat, size, width, frees, fvs, Free, Layout, Counted, substitute, pick}
 use Rattle.terms.specs.Rows.Row.{none, node}
 use Rattle.terms.specs.Standing.{Stands}
 use Rattle.terms.proofs.Inject.{top, under, inj-&}
 use Rattle.terms.proofs.Bridge.{formed_counted}
 use Rattle.terms.proofs.Steps.{moved}
-use Rattle.terms.proofs.Moves.{free_left, plain_out}
 use Rattle.calculus.specs.Line.{Gives}
-use Rattle.moves.specs.declared.images.Span.{Span}
-use Rattle.moves.proofs.Substitutes.{tree_here}
+use Rattle.std.specs.Borrow.{Bor}
+use Rattle.moves.proofs.Overs.{part_is}
+use Rattle.rewriting.proofs.Standings.{tree_here}
 use Rattle.lets.specs.Syntax.{admits, Lawful, Terms, fun, marked, arrow, light, ProgramRule}
 use Rattle.lets.specs.Syntax.Sort.{term, left, pattern}
 use Rattle.lets.specs.Checks.{EachOnce}
 use Rattle.lets.specs.Figure.{Called, Match, binding, fapp}
+use Rattle.lets.proofs.Arrows.{few_variables}
 use Rattle.lets.proofs.Judges.{left_kids, term_kids}
 use Rattle.terms.proofs.Endings.{stands_cells}
-use Rattle.lets.proofs.MoreLaws.{one_wide}
-use Rattle.rewriting.specs.Steps.{TermAt}
+use Rattle.lets.proofs.Laws.{one_wide}
 use Rattle.rewriting.specs.Matchings.{Facing, Bound}
 use Rattle.rewriting.proofs.CellWhole.{symbol_cell, symbol_fields}
-use Rattle.rewriting.proofs.Standings.{stands_left, stands_right, cell_here, kids_here, top_here}
-use Rattle.rewriting.proofs.Counts.{below_once}
+use Rattle.rewriting.proofs.Standings.{TermAt, stands_left, stands_right, cell_here, kids_here, top_here}
 use Rattle.rewriting.proofs.SideBySide.{Each, each_of}
-use Rattle.rewriting.proofs.Halfway.{match_wide}
+use Rattle.rewriting.proofs.Halfway.{stands_dropped, match_wide}
 
 -- the cell of a left side
 left_fields : (c : ℕ) → admits left c ≡ true → (kind c ≡ 33) × (binder c ≡ 0) × (zeros c ≡ 0) × (children c ≤ 255) × (payload c < 1024)
@@ -83,18 +82,6 @@ pub record Parted (t : Row) (rule : List ℕ) (right : ℕ) : Type 0 where
   pub once : EachOnce (fvs p)
   pub few : length (fvs p) ≤ 1024
   pub below : (x : ℕ) → Free x r → x < length (fvs p)
-
--- no more than 1,024 variables
-few_variables : (l r : Row) → EachOnce (fvs l) → Layout (arrow l r) → length (fvs l) ≤ 1024
-few_variables l r once lay = go (ltb 1024 (length (fvs l))) refl
-  where
-    go : (b : Bool) → ltb 1024 (length (fvs l)) ≡ b → length (fvs l) ≤ 1024
-    go false e = grind (arith, nat_tests)
-    go true e =
-        let h : 1024 < length (fvs l) = grind (arith, nat_tests) in
-        let f = plain_out (cell 36 0 2 0) (l & r) (λ z. omega arith) refl 1024 (free_left 1024 l r (below_once 1024 (fvs l) once h)) in
-        let w : 1024 < 1024 = lay.low 1024 f in
-        absurd (omega arith)
 
 module _ {t : Row} {rule : List ℕ} (g : ProgramRule t) (e : flat t ≡ rule) where
   whole : Stands (arrow g.l g.r) 1 rule 0
@@ -181,15 +168,15 @@ module _ {t ρ : Row} {redex rule : List ℕ} {right : ℕ} (s : TermAt t redex 
       let v = symbol_fields 33 (width q.p) q.f q.narrow q.low in
       applied_of t q.f q.p s (subst (λ n. (kind n ≡ 33) ⊎ (kind n ≡ 34)) (sym e) h.0) (ap payload e ∙ h.1 ∙ ap payload q.head ∙ v.2) (ap children e ∙ h.2 ∙ ap children q.head ∙ v.1)
 
-  pub facing : (a : Applied t redex q.f q.p) (patterns : List ℕ) (most : ℕ) → patterns ≡ take (right - 2) (drop 2 rule) → most ≡ 1024 → Facing q.p a.ts patterns redex most
-  facing a patterns most e m =
+  pub facing : (a : Applied t redex q.f q.p) (patterns terms : List ℕ) (most : ℕ) → patterns ≡ take (right - 2) (drop 2 rule) → terms ≡ take (length redex - 1) (drop 1 redex) → most ≡ 1024 → Facing q.p a.ts patterns terms most
+  facing a patterns terms most e f m =
       record {
         lawful = q.patterns;
         reads = sym q.reads ∙ sym e;
         once = q.once;
         few = omega (arith, q.few);
-        terms = a.terms;
-        stands = a.stands;
+        letters = a.terms;
+        stands = subst (λ l. Stands a.ts (width q.p) l 0) (sym (f ∙ part_is redex 1)) (stands_dropped a.stands);
       }
 
   -- of the program rule that the argument numbers
@@ -224,7 +211,7 @@ module _ {t ρ : Row} {redex rule : List ℕ} {right : ℕ} (s : TermAt t redex 
           let m = same_parts l in
           (l.bound ∙ ap (λ u. length (fvs u)) (ap (λ f. fun f l.p) m.0 ∙ ap (fun q.f) m.1) ∙ ap length q.free, subst (λ x. Match l.θ x a.ts) m.1 (subst (Match l.θ l.p) (same_terms l) l.matched))
 
-      pub called : {k : ℕ} {spans : List Span} (θ : Row) → k ≡ length (fvs q.p) → Bound θ k redex spans → Match θ q.p a.ts → Called program argument t
+      pub called : {k : ℕ} {values : List (Bor (List ℕ))} (θ : Row) → k ≡ length (fvs q.p) → Bound θ k values → Match θ q.p a.ts → Called program argument t
       called θ e b m =
           record {
             f = q.f;
@@ -239,6 +226,6 @@ module _ {t ρ : Row} {redex rule : List ℕ} {right : ℕ} (s : TermAt t redex 
             matched = m;
           }
 
-      pub gives_right : {k : ℕ} {spans : List Span} (θ : Row) → k ≡ length (fvs q.p) → Bound θ k redex spans → Match θ q.p a.ts → light θ ≡ true → Gives (fapp program argument t) (substitute (binding θ) 0 0 q.r)
+      pub gives_right : {k : ℕ} {values : List (Bor (List ℕ))} (θ : Row) → k ≡ length (fvs q.p) → Bound θ k values → Match θ q.p a.ts → light θ ≡ true → Gives (fapp program argument t) (substitute (binding θ) 0 0 q.r)
       unfolding called
       gives_right θ e b m l = (called θ e b m, l, tt, refl)

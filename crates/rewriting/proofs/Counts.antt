@@ -3,7 +3,7 @@ use Rattle.std.proofs.Common.{◌≡◌, ℕ, ◌<◌, ◌≤◌, Bool, true, fa
 use Rattle.std.proofs.lemmas.Bool.Decides.{nat_tests}
 use Rattle.terms.specs.Lists.{In, count}
 use Rattle.lets.specs.Checks.{EachOnce}
-use Rattle.lets.proofs.Arrows.{count_in}
+use Rattle.lets.proofs.Unique.{count_in}
 use Rattle.lets.proofs.Countings.{count-++}
 
 abbrev one_if : Bool → ℕ

@@ -3,34 +3,41 @@ use Rattle.std.proofs.Common.{◌≡◌, ℕ, ◌<◌, ◌≤◌, Bool, true, fa
 use Rattle.std.proofs.lemmas.Bool.Decides.{nat_tests}
 use Rattle.std.proofs.lemmas.List.{get_or-take, length-take-le}
 use Rattle.terms.specs.Rows.{Row, Free, var, substitute}
-use Rattle.moves.specs.declared.images.Span.{Span}
 use Rattle.moves.specs.declared.images.Image.TheVariants.{Tree, Number}
+use Rattle.moves.specs.declared.images.Substitution.{Substitution}
 use Rattle.moves.specs.declared.images.Substitution.TheVariants.{Bindings}
-use Rattle.moves.specs.Images.{span, Shown, Shows}
+use Rattle.moves.specs.Images.{nothing, Shown, Shows}
 use Rattle.lets.specs.Figure.{binding}
 use Rattle.lets.proofs.MoreLaws.{substitute_same}
-use Rattle.rewriting.specs.Matchings.{Lies, Bound}
+use Rattle.rewriting.specs.Matchings.{Bound}
+use Rattle.rewriting.proofs.Askings.{spelled_tree}
+use Rattle.rewriting.proofs.SideBySide.{each_term}
 
--- the first n spans say where n bindings lie
-pub bound_front : {θ : Row} {n : ℕ} {subject : List ℕ} {spans : List Span} (m : ℕ) → m ≡ n → n ≤ length spans → Bound θ n subject spans → Bound θ (length (take m spans)) subject (take m spans)
-bound_front {θ} {n} {subject} {spans} m e h b =
-    let l : length (take m spans) ≡ m = length-take-le m spans (omega arith) in
+-- the first n values are n bindings
+pub bound_front : {θ : Row} {n : ℕ} {values : List (Bor (List ℕ))} (m : ℕ) → m ≡ n → n ≤ length values → Bound θ n values → Bound θ (length (take m values)) (take m values)
+bound_front {θ} {n} {values} m e h b =
+    let l : length (take m values) ≡ m = length-take-le m values (omega arith) in
     record {
       wide = b.wide ∙ sym e ∙ sym l;
       terms = b.terms;
-      lies = λ x k. subst (Lies (binding θ x) subject) (sym (get_or-take m spans x (span 0 0) (omega arith))) (b.lies x (omega arith));
+      reads = λ x k. b.reads x (omega arith) ∙ ap (λ v. v.now) (sym (get_or-take m values x nothing (omega arith)));
     }
 
 -- a binding for each number below n, and every other number for itself
 abbrev pub given : Row → ℕ → ℕ → Row
 given θ n m = cond (ltb m n) (binding θ m) (var m)
 
-pub shows_bound : {θ : Row} {subject : List ℕ} (spans : Bor (List Span)) → Bound θ (length spans.now) subject spans.now → Shows subject (Bindings spans) (given θ (length spans.now))
-shows_bound {θ} {subject} spans b m = go (ltb m (length spans.now)) refl
+pub shows_bound : {θ : Row} (values : Bor (List (Bor (List ℕ)))) → Bound θ (length values.now) values.now → Shows (Bindings values) (given θ (length values.now))
+shows_bound {θ} values b m = go (ltb m (length values.now)) refl
   where
-    go : (q : Bool) → ltb m (length spans.now) ≡ q → Shown subject (cond q (Tree (get_or spans.now m (span 0 0)).start (get_or spans.now m (span 0 0)).end) (Number m)) (cond q (binding θ m) (var m))
-    go true e = b.lies m (grind (arith, nat_tests))
+    go : (q : Bool) → ltb m (length values.now) ≡ q → Shown (cond q (Tree (get_or values.now m nothing)) (Number m)) (cond q (binding θ m) (var m))
+    go true e =
+        let l : m < length values.now = grind (arith, nat_tests) in
+        spelled_tree (binding θ m) (each_term θ m b.terms (omega (arith, b.wide))) (b.reads m l)
     go false e = refl
+
+pub shows_given : {θ : Row} {how : Substitution} {values : Bor (List (Bor (List ℕ)))} → how ≡ Bindings values → Bound θ (length values.now) values.now → Shows how (given θ (length values.now))
+shows_given {θ} {values = values} e b = subst (λ h. Shows h (given θ (length values.now))) (sym e) (shows_bound values b)
 
 -- where a term has no others, only the bindings are put
 pub given_same : (θ : Row) (n : ℕ) (r : Row) → ((x : ℕ) → Free x r → x < n) → substitute (given θ n) 0 0 r ≡ substitute (binding θ) 0 0 r

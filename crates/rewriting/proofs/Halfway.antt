@@ -1,5 +1,5 @@
 -- Patterns and terms walked side by side: what is still to match, and what is bound so far. Assumes nothing.
-use Rattle.std.proofs.Common.{◌≡◌, ℕ, suc, ◌+◌, ◌-◌, ◌<◌, ◌≤◌, true, false, cond, eqb, List, [], ◌∷◌, ◌++◌, length, get_or, drop, set, Some, sym, refl, ap, ◌∙◌, subst, inl, inr, ⊎_elim, append_assoc, append-nil, arith, length-append, get_or-set_other, get_or-set_same}
+use Rattle.std.proofs.Common.{◌≡◌, ℕ, suc, ◌+◌, ◌-◌, ◌<◌, ◌≤◌, true, false, cond, eqb, List, [], ◌∷◌, ◌++◌, length, get_or, take, drop, set, Some, sym, refl, ap, ◌∙◌, subst, inl, inr, ⊎_elim, append_assoc, append-nil, arith, length-append, get_or-set_other, get_or-set_same}
 use lib.ListN.{length-replicate}
 use Rattle.std.proofs.lemmas.Bool.Decides.{nat_tests}
 use Rattle.std.proofs.lemmas.List.{drop_more, drop_all}
@@ -10,20 +10,27 @@ use Rattle.terms.specs.Rows.Row.{none, node}
 use Rattle.terms.specs.Standing.{Stands}
 use Rattle.terms.proofs.Inject.{under, next, empty, lawful_width, width-&}
 use Rattle.terms.proofs.Steps.{opened, moved}
+use Rattle.terms.proofs.Endings.{stands_cells}
 use Rattle.terms.proofs.Trees.{flat-&, counted-&}
 use Rattle.terms.proofs.Moves.{in-++, in_left, in_right, ground}
-use Rattle.moves.proofs.Substitutes.{tree_here}
-use Rattle.moves.specs.declared.images.Span.{Span}
-use Rattle.moves.specs.Images.{span}
+use Rattle.rewriting.proofs.Standings.{tree_here}
+use Rattle.std.specs.Borrow.{Bor}
+use Rattle.moves.specs.Images.{nothing}
 use Rattle.lets.specs.Syntax.{admits, kids, Lawful, Term, Terms}
 use Rattle.lets.specs.Syntax.Sort.{term, pattern}
 use Rattle.lets.specs.Checks.{EachOnce}
 use Rattle.lets.specs.Figure.{Match, binding}
+use Rattle.lets.proofs.Laws.{one_wide}
+use Rattle.lets.proofs.Unique.{pattern_cell, rows_same}
 use Rattle.lets.proofs.Judges.{term_kids, pattern_kids}
-use Rattle.rewriting.specs.Matchings.{Facing, Lies, Matched}
+use Rattle.rewriting.specs.Matchings.{Facing, Matched}
 use Rattle.rewriting.proofs.Standings.{stands_left, stands_right}
 use Rattle.rewriting.proofs.Counts.{once_below, below_once, once_before}
-use Rattle.rewriting.proofs.SideBySide.{Each, each_of, each-&, fvs-&, side, side_wide, side_pick, side_terms, rows_same}
+use Rattle.rewriting.proofs.SideBySide.{Each, each_of, each-&, fvs-&, side, side_wide, side_pick, side_terms}
+
+-- what stands at a cell stands at the front of the cells from there on
+pub stands_dropped : {t : Row} {n at : ℕ} {cells : List ℕ} → Stands t n cells at → Stands t n (drop at cells) 0
+stands_dropped s = record { counted = s.counted; wide = s.wide; rest = s.rest; reads = s.reads }
 
 -- patterns match terms one by one
 match_apart : (θ a b x y : Row) → width a ≡ width x → Match θ (a & b) (x & y) → Match θ a x × Match θ b y
@@ -44,11 +51,6 @@ match_wide θ none (node d js s) m = absurd m
 match_wide θ (node c ks r) none m = absurd m
 match_wide θ (node c ks r) (node d js s) m = ap suc (match_wide θ r s m.1)
 
--- a pattern's cell
-pattern_cell : (c : ℕ) → admits pattern c ≡ true → (binder c ≡ 0) × (kind c ≡ 0 → children c ≡ 0)
-unfolding admits
-pattern_cell c h = (grind (arith, nat_tests), λ k. grind (arith, nat_tests))
-
 -- the free variables of patterns, by the first cell
 fvs_variable : (c : ℕ) (r : Row) → kind c ≡ 0 → fvs (node c none r) ≡ payload c ∷ fvs r
 fvs_variable c r k =
@@ -63,29 +65,33 @@ fvs_symbol c ks r k b =
     let l : loose 0 c ≡ false = grind (arith, nat_tests) in
     ap (λ n. own n c ++ (frees n (binder c) ks ++ fvs r)) g ∙ ap (λ q. cond q ((payload c - 0) ∷ []) [] ++ (frees 0 (binder c) ks ++ fvs r)) l ∙ ap (λ n. frees 0 n ks ++ fvs r) b ∙ sym (fvs-& ks r)
 
--- The patterns P from the cell number i on are still to match the terms S at a cell. Passed are the variables xs, and
--- their bindings lie as the spans say.
-pub record Half (p ts : Row) (patterns subject : List ℕ) (spans : List Span) (i at n : ℕ) (P S : Row) (xs : List ℕ) : Type 0 where
+-- a binding is the term with these cells
+abbrev pub Held : Row → Bor (List ℕ) → Type 0
+Held t value = Term t × (flat t ≡ value.now)
+
+-- The patterns P from the cell number i on are still to match the terms S at the front of the cells that are left. Passed
+-- are the variables xs, and the values hold their bindings.
+pub record Half (p ts : Row) (patterns left : List ℕ) (values : List (Bor (List ℕ))) (i n : ℕ) (P S : Row) (xs : List ℕ) : Type 0 where
   pub lawful : Each pattern P
   pub reads : flat P ≡ drop i patterns
   pub terms : Terms S
-  pub stands : Stands S (width P) subject at
+  pub stands : Stands S (width P) left 0
   pub passed : fvs p ≡ xs ++ fvs P
   pub counted : n ≡ length xs
   pub trees : ℕ → Row
-  pub lies : (x : ℕ) → In x xs → Term (trees x) × Lies (trees x) subject (get_or spans x (span 0 0))
+  pub held : (x : ℕ) → In x xs → Held (trees x) (get_or values x nothing)
   pub forth : (θ : Row) → Match θ p ts → Match θ P S × ((x : ℕ) → In x xs → binding θ x ≡ trees x)
   pub back : (θ : Row) → Match θ P S → ((x : ℕ) → In x xs → binding θ x ≡ trees x) → Match θ p ts
 
 -- some such
-pub record Going (p ts : Row) (patterns subject : List ℕ) (spans : List Span) (i at n : ℕ) : Type 0 where
+pub record Going (p ts : Row) (patterns left : List ℕ) (values : List (Bor (List ℕ))) (i n : ℕ) : Type 0 where
   pub P : Row
   pub S : Row
   pub xs : List ℕ
-  pub half : Half p ts patterns subject spans i at n P S xs
+  pub half : Half p ts patterns left values i n P S xs
 
-pub going_start : {p ts : Row} {patterns subject : List ℕ} {most : ℕ} (spans : List Span) → Facing p ts patterns subject most → Going p ts patterns subject spans 0 1 0
-going_start {p} {ts} spans f =
+pub going_start : {p ts : Row} {patterns terms : List ℕ} {most : ℕ} (values : List (Bor (List ℕ))) → Facing p ts patterns terms most → Going p ts patterns terms values 0 0
+going_start {p} {ts} values f =
     record {
       P = p;
       S = ts;
@@ -94,31 +100,31 @@ going_start {p} {ts} spans f =
           record {
             lawful = f.lawful;
             reads = f.reads;
-            terms = f.terms;
+            terms = f.letters;
             stands = f.stands;
             passed = refl;
             counted = refl;
             trees = λ x. none;
-            lies = λ x h. absurd h;
+            held = λ x h. absurd h;
             forth = λ θ m. (m, λ x h. absurd h);
             back = λ θ m h. m;
           };
     }
 
-pub going_as : {p ts : Row} {patterns subject : List ℕ} {spans spans' : List Span} {i i' at at' n n' : ℕ} → Going p ts patterns subject spans i at n → spans' ≡ spans → i' ≡ i → at' ≡ at → n' ≡ n → Going p ts patterns subject spans' i' at' n'
+pub going_as : {p ts : Row} {patterns left left' : List ℕ} {values values' : List (Bor (List ℕ))} {i i' n n' : ℕ} → Going p ts patterns left values i n → left' ≡ left → values' ≡ values → i' ≡ i → n' ≡ n → Going p ts patterns left' values' i' n'
 going_as g a b c d = rw (a, b, c, d) g
 
 -- the first of the patterns and the first of the terms
-pub record Front (p ts : Row) (patterns subject : List ℕ) (spans : List Span) (i at n : ℕ) : Type 0 where
+pub record Front (p ts : Row) (patterns left : List ℕ) (values : List (Bor (List ℕ))) (i n : ℕ) : Type 0 where
   pub ks : Row
   pub r : Row
   pub js : Row
   pub s : Row
   pub xs : List ℕ
-  pub half : Half p ts patterns subject spans i at n (node (get_or patterns i 0) ks r) (node (get_or subject at 0) js s) xs
+  pub half : Half p ts patterns left values i n (node (get_or patterns i 0) ks r) (node (get_or left 0 0) js s) xs
 
-module _ {p ts : Row} {patterns subject : List ℕ} {spans : List Span} {i at n : ℕ} where
-  front : (P S : Row) (xs : List ℕ) → Half p ts patterns subject spans i at n P S xs → i < length patterns → Front p ts patterns subject spans i at n
+module _ {p ts : Row} {patterns left : List ℕ} {values : List (Bor (List ℕ))} {i n : ℕ} where
+  front : (P S : Row) (xs : List ℕ) → Half p ts patterns left values i n P S xs → i < length patterns → Front p ts patterns left values i n
   front none S xs h l =
       let m = h.reads ∙ drop_more patterns i 0 l in
       let z : ◌≡◌ {A = ℕ} 0 1 = cc m in
@@ -133,14 +139,14 @@ module _ {p ts : Row} {patterns subject : List ℕ} {spans : List Span} {i at n 
         js = o.ks;
         s = o.r;
         xs = xs;
-        half = subst (λ t. Half p ts patterns subject spans i at n (node (get_or patterns i 0) ks r) t xs) o.is (subst (λ x. Half p ts patterns subject spans i at n (node x ks r) S xs) hd h);
+        half = subst (λ t. Half p ts patterns left values i n (node (get_or patterns i 0) ks r) t xs) o.is (subst (λ x. Half p ts patterns left values i n (node x ks r) S xs) hd h);
       }
 
-  pub going_front : Going p ts patterns subject spans i at n → i < length patterns → Front p ts patterns subject spans i at n
+  pub going_front : Going p ts patterns left values i n → i < length patterns → Front p ts patterns left values i n
   going_front g l = front g.P g.S g.xs g.half l
 
   -- at a first pattern c and a first term with the cell d
-  module _ {c d : ℕ} {ks r js s : Row} {xs : List ℕ} (h : Half p ts patterns subject spans i at n (node c ks r) (node d js s) xs) (l : i < length patterns) where
+  module _ {c d : ℕ} {ks r js s : Row} {xs : List ℕ} (h : Half p ts patterns left values i n (node c ks r) (node d js s) xs) (l : i < length patterns) where
     rest_reads : flat ks ++ flat r ≡ drop (i + 1) patterns
     rest_reads = let m = h.reads ∙ drop_more patterns i 0 l in cc m
 
@@ -148,10 +154,10 @@ module _ {p ts : Row} {patterns subject : List ℕ} {spans : List Span} {i at n 
     kids_wide =
         lawful_width admits kids (kids pattern c) ks h.lawful.1 ∙ ap length (pattern_kids c) ∙ length-replicate (children c) pattern
 
-    first_here : Stands (node d js none) 1 subject at
+    first_here : Stands (node d js none) 1 left 0
     first_here = stands_left (node d js none) s h.stands
 
-    pub first_below : at < length subject
+    pub first_below : 0 < length left
     first_below = tree_here first_here
 
     -- a variable is bound to the whole term
@@ -168,7 +174,7 @@ module _ {p ts : Row} {patterns subject : List ℕ} {spans : List Span} {i at n 
       pub variable_below : EachOnce (fvs p) → payload c < length (fvs p)
       variable_below o = once_below (payload c) (fvs p) o here_in
 
-      pub variable_term : Stands (node d js none) 1 subject at
+      pub variable_term : Stands (node d js none) 1 left 0
       variable_term = first_here
 
       bound_there : (θ : Row) → Match θ (node c ks r) (node d js s) → binding θ (payload c) ≡ node d js none
@@ -200,8 +206,8 @@ module _ {p ts : Row} {patterns subject : List ℕ} {spans : List Span} {i at n 
             last (inl e) = subst Q (sym e) q
             last (inr z) = absurd z
 
-        pub variable_passed : (end : ℕ) → length (fvs p) ≤ length spans → end ≡ at + size (node d js none) → Going p ts patterns subject (set spans (payload c) (span at end)) (i + 1) end (n + 1)
-        variable_passed end few e =
+        pub variable_passed : (end : ℕ) (value : Bor (List ℕ)) → length (fvs p) ≤ length values → end ≡ size (node d js none) → value.now ≡ take end left → Going p ts patterns (drop end left) (set values (payload c) value) (i + 1) (n + 1)
+        variable_passed end value few e is =
             record {
               P = r;
               S = s;
@@ -211,11 +217,11 @@ module _ {p ts : Row} {patterns subject : List ℕ} {spans : List Span} {i at n 
                     lawful = h.lawful.2;
                     reads = ap (λ t. flat t ++ flat r) (sym leaf) ∙ rest_reads;
                     terms = h.terms.2;
-                    stands = moved (stands_right (node d js none) s h.stands) (omega (arith, h.stands.wide)) e;
+                    stands = stands_dropped (moved (stands_right (node d js none) s h.stands) (omega (arith, h.stands.wide)) (omega (arith, e)));
                     passed = variable_free ∙ sym (append_assoc xs (payload c ∷ []) (fvs r));
                     counted = omega (arith, h.counted, length-append xs (payload c ∷ []));
                     trees = new_trees;
-                    lies = more (λ y. Term (new_trees y) × Lies (new_trees y) subject (get_or (set spans (payload c) (span at end)) y (span 0 0))) old_lies new_lies;
+                    held = more (λ y. Held (new_trees y) (get_or (set values (payload c) value) y nothing)) old_held new_held;
                     forth = λ θ m.
                         let q = h.forth θ m in
                         (q.0.1, more (λ y. binding θ y ≡ new_trees y) (λ y z. q.1 y z ∙ sym (new_other y (apart y z))) (bound_there θ q.0 ∙ sym new_here));
@@ -224,17 +230,18 @@ module _ {p ts : Row} {patterns subject : List ℕ} {spans : List Span} {i at n 
                   };
             }
           where
-            old_lies : (y : ℕ) → In y xs → Term (new_trees y) × Lies (new_trees y) subject (get_or (set spans (payload c) (span at end)) y (span 0 0))
-            old_lies y z =
+            old_held : (y : ℕ) → In y xs → Held (new_trees y) (get_or (set values (payload c) value) y nothing)
+            old_held y z =
                 let t = new_other y (apart y z) in
-                let g : get_or (set spans (payload c) (span at end)) y (span 0 0) ≡ get_or spans y (span 0 0) = get_or-set_other spans (payload c) y (span at end) (span 0 0) (apart y z) in
-                subst (λ u. Term u × Lies u subject (get_or (set spans (payload c) (span at end)) y (span 0 0))) (sym t) (subst (λ b. Term (h.trees y) × Lies (h.trees y) subject b) (sym g) (h.lies y z))
+                let g : get_or (set values (payload c) value) y nothing ≡ get_or values y nothing = get_or-set_other values (payload c) y value nothing (apart y z) in
+                subst (λ u. Held u (get_or (set values (payload c) value) y nothing)) (sym t) (subst (Held (h.trees y)) (sym g) (h.held y z))
 
-            new_lies : Term (new_trees (payload c)) × Lies (new_trees (payload c)) subject (get_or (set spans (payload c) (span at end)) (payload c) (span 0 0))
-            new_lies =
+            new_held : Held (new_trees (payload c)) (get_or (set values (payload c) value) (payload c) nothing)
+            new_held =
                 let b = variable_below o in
-                let g : get_or (set spans (payload c) (span at end)) (payload c) (span 0 0) ≡ span at end = get_or-set_same spans (payload c) (span at end) (span 0 0) (omega arith) in
-                subst (λ u. Term u × Lies u subject (get_or (set spans (payload c) (span at end)) (payload c) (span 0 0))) (sym new_here) (subst (λ b. Term (node d js none) × Lies (node d js none) subject b) (sym g) ((h.terms.0, h.terms.1, tt), (first_here, e)))
+                let g : get_or (set values (payload c) value) (payload c) nothing ≡ value = get_or-set_same values (payload c) value nothing (omega arith) in
+                let w : flat (node d js none) ≡ value.now = sym (is ∙ stands_cells first_here end e) in
+                subst (λ u. Held u (get_or (set values (payload c) value) (payload c) nothing)) (sym new_here) (subst (Held (node d js none)) (sym g) ((h.terms.0, h.terms.1, tt), w))
 
     -- a constructor matches its own cell
     module _ (k : kind c ≡ 0 → ⊥) where
@@ -246,7 +253,7 @@ module _ {p ts : Row} {patterns subject : List ℕ} {spans : List Span} {i at n 
       pub other_cell : (d ≡ c → ⊥) → (θ : Row) → Match θ p ts → ⊥
       other_cell ne θ m = ne (sym (same_cell θ (h.forth θ m).0).0)
 
-      pub symbol_passed : d ≡ c → Going p ts patterns subject spans (i + 1) (at + 1) n
+      pub symbol_passed : d ≡ c → Going p ts patterns (drop 1 left) values (i + 1) n
       symbol_passed e =
           record {
             P = ks & r;
@@ -261,7 +268,7 @@ module _ {p ts : Row} {patterns subject : List ℕ} {spans : List Span} {i at n 
                   passed = h.passed ∙ ap (λ m. xs ++ m) (fvs_symbol c ks r k (pattern_cell c h.lawful.0).0);
                   counted = h.counted;
                   trees = h.trees;
-                  lies = h.lies;
+                  held = h.held;
                   forth = λ θ m.
                       let q = h.forth θ m in
                       (match_beside θ ks r js s wide (same_cell θ q.0).1 q.0.1, q.1);
@@ -279,7 +286,7 @@ module _ {p ts : Row} {patterns subject : List ℕ} {spans : List Span} {i at n 
               let q : eqb (kind c) 0 ≡ false = grind (arith, nat_tests) in
               subst (λ b. cond b (binding θ (payload c) ≡ node d js none) ((c ≡ d) × Match θ ks js)) (sym q) (sym e, m)
 
-          both_stand : Stands (js & s) (width (ks & r)) subject (at + 1)
+          both_stand : Stands (js & s) (width (ks & r)) (drop 1 left) 0
           both_stand =
               let o = opened (node d js s) h.stands (λ z. omega arith) in
               let x : js ≡ o.ks = ap under o.is in
@@ -292,11 +299,11 @@ module _ {p ts : Row} {patterns subject : List ℕ} {spans : List Span} {i at n 
                 reads = ap (λ m. m ++ o.rest) (flat-& js s) ∙ ap (λ t. (flat t ++ flat s) ++ o.rest) x ∙ ap (λ t. (flat o.ks ++ flat t) ++ o.rest) y ∙ o.tail;
               }
 
--- nothing is left
-pub going_end : {p ts : Row} {patterns subject : List ℕ} {spans : List Span} {at n most : ℕ} → Facing p ts patterns subject most → Going p ts patterns subject spans (length patterns) at n → Matched p ts subject spans (Some n)
-going_end {p} {ts} {patterns} {subject} {spans} {at} {n} {most} f g = finish g.P g.S g.half
+-- nothing is left to match
+pub going_end : {p ts : Row} {patterns terms left : List ℕ} {values : List (Bor (List ℕ))} {n most : ℕ} → Facing p ts patterns terms most → Going p ts patterns left values (length patterns) n → Matched p ts values (Some n)
+going_end {p} {ts} {patterns} {terms} {left} {values} {n} {most} f g = finish g.P g.S g.half
   where
-    finish : (P S : Row) → Half p ts patterns subject spans (length patterns) at n P S g.xs → Matched p ts subject spans (Some n)
+    finish : (P S : Row) → Half p ts patterns left values (length patterns) n P S g.xs → Matched p ts values (Some n)
     finish (node c ks r) S h =
         let m = h.reads ∙ drop_all (length patterns) patterns (omega arith) in
         let z : ◌≡◌ {A = ℕ} 0 1 = cc m in
@@ -306,7 +313,7 @@ going_end {p} {ts} {patterns} {subject} {spans} {at} {n} {most} f g = finish g.P
         let all : fvs p ≡ g.xs = h.passed ∙ append-nil g.xs in
         let len : length (fvs p) ≡ n = ap length all ∙ sym h.counted in
         let each : (x : ℕ) → x < n → In x g.xs = λ x l. subst (In x) all (below_once x (fvs p) f.once (omega arith)) in
-        let one : (x : ℕ) → x < n → width (h.trees x) ≡ 1 = λ x l. (h.lies x (each x l)).1.0.wide in
+        let one : (x : ℕ) → x < n → width (h.trees x) ≡ 1 = λ x l. one_wide (h.trees x) (h.held x (each x l)).0 in
         let θ = side n h.trees in
         let picks : (x : ℕ) → x < n → binding θ x ≡ h.trees x = side_pick n h.trees one in
         let wide : width θ ≡ n = side_wide n h.trees one in (
@@ -315,8 +322,8 @@ going_end {p} {ts} {patterns} {subject} {spans} {at} {n} {most} f g = finish g.P
             θ,
             record {
               wide = wide;
-              terms = side_terms n h.trees (λ x l. (h.lies x (each x l)).0);
-              lies = λ x l. subst (λ t. Lies t subject (get_or spans x (span 0 0))) (sym (picks x l)) (h.lies x (each x l)).1;
+              terms = side_terms n h.trees (λ x l. (h.held x (each x l)).0);
+              reads = λ x l. ap flat (picks x l) ∙ (h.held x (each x l)).1;
             },
             h.back θ tt (λ x m. picks x (subst (λ k. x < k) len (once_below x (fvs p) f.once (subst (In x) (sym all) m)))),
             λ other w m. rows_same other θ (w ∙ sym wide) (λ x l. let b = subst (λ k. x < k) w l in (h.forth other m).1 x (each x b) ∙ sym (picks x b)),

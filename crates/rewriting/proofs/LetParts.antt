@@ -2,19 +2,20 @@
 use Rattle.std.proofs.Common.{◌≡◌, ℕ, suc, ◌+◌, ◌≤◌, true, List, [], ◌∷◌, length, get_or, replicate, sym, refl, ap, ◌∙◌, subst, arith}
 use Rattle.std.proofs.lemmas.Bool.Decides.{nat_tests}
 use Rattle.terms.specs.Cells.{kind, binder, children, zeros, payload, cell}
-use Rattle.terms.specs.Rows.{Row, size, ◌&◌}
+use Rattle.terms.specs.Rows.{Row, flat, size, ◌&◌}
 use Rattle.terms.specs.Rows.Row.{none, node}
 use Rattle.terms.specs.Standing.{Stands}
 use Rattle.terms.proofs.Inject.{top, under, inj-&}
+use Rattle.terms.proofs.Trees.{flat_size}
 use Rattle.terms.proofs.Bridge.{size-&}
 use Rattle.terms.proofs.Steps.{moved}
 use Rattle.lets.specs.Syntax.{admits, kids, Lawful, Term, let_in}
 use Rattle.lets.specs.Syntax.Sort.{term}
 use Rattle.lets.specs.Figure.{Let, Lets}
-use Rattle.lets.proofs.MoreLaws.{beside, one_wide, term_kids}
-use Rattle.rewriting.specs.Steps.{TermAt}
+use Rattle.lets.proofs.Laws.{beside, one_wide}
+use Rattle.lets.proofs.MoreLaws.{term_kids}
 use Rattle.rewriting.proofs.CellWhole.{cell_is}
-use Rattle.rewriting.proofs.Standings.{stands_left, stands_right, cell_here, kids_here, tree_within, top_here}
+use Rattle.rewriting.proofs.Standings.{TermAt, stands_left, stands_right, cell_here, kids_here, tree_within, top_here}
 
 -- the fields of a let's cell, and the cell itself
 let_fields : (c : ℕ) → admits term c ≡ true → kind c ≡ 35 → (binder c ≡ 1) × (children c ≡ 2) × (zeros c ≡ 0) × (payload c ≡ 0)
@@ -105,28 +106,23 @@ pub lets_inner : {t : Row} (l : Let t) → Lets t → Let l.a
 unfolding lets_outer
 lets_inner l q = record { a = q.a; e = q.b; letters = (q.letters.0, q.letters.1); is = (let_same l (lets_outer q)).0 }
 
--- where the three parts of a let of a let stand
-pub record Spread (t : Row) (cells : List ℕ) (body inner : ℕ) : Type 0 where
+-- the three parts of a let of a let, by their cells
+pub record Flattened (t : Row) (a b e : List ℕ) : Type 0 where
   pub lets : Lets t
-  pub first : Stands lets.a 1 cells 2
-  pub second : Stands lets.b 1 cells inner
-  pub third : Stands lets.e 1 cells body
-  pub inner_is : inner ≡ 2 + size lets.a
-  pub body_is : body ≡ inner + size lets.b
-  pub end_is : length cells ≡ body + size lets.e
+  pub a_is : flat lets.a ≡ a
+  pub b_is : flat lets.b ≡ b
+  pub e_is : flat lets.e ≡ e
+  pub long : size t ≡ 2 + length a + length b + length e
 
-pub spread : {t : Row} {cells : List ℕ} {body inner : ℕ} (s : TermAt t cells 0) → size t ≡ length cells → (l : Let t) → body ≡ 0 + 1 + size l.a → (m : Let l.a) → inner ≡ 1 + 1 + size m.a → Spread t cells body inner
+pub flattened : {t : Row} {a b e : List ℕ} (l : Let t) (m : Let l.a) → flat m.a ≡ a → flat m.e ≡ b → flat l.e ≡ e → Flattened t a b e
 unfolding lets_of
-spread {t} {cells} {body} {inner} s z l e m f =
-    let o = bound_at s l in
-    let x = let_size s l in
-    let y = let_size o m in
+flattened {t} l m x y z =
+    let u = ap size m.is in
     record {
       lets = lets_of l m;
-      first = (bound_at o m).stands;
-      second = (body_at o m inner (omega arith)).stands;
-      third = (body_at s l body e).stands;
-      inner_is = omega arith;
-      body_is = omega arith;
-      end_is = omega arith;
+      a_is = x;
+      b_is = y;
+      e_is = z;
+      long =
+          omega (arith, ap size l.is, size-& l.a l.e, u, size-& m.a m.e, flat_size m.a, flat_size m.e, flat_size l.e, ap length x, ap length y, ap length z);
     }

@@ -1,12 +1,14 @@
 pub mod CellWhole
 pub mod Standings
 pub mod LetParts
+pub mod Symbols
+pub mod Redexes
+pub mod Steps
 pub mod Writes
 pub mod Sought
-pub mod Symbols
 pub mod Counts
 pub mod SideBySide
 pub mod Halfway
 pub mod Callings
-pub mod Givens
 pub mod Askings
+pub mod Givens

@@ -1,5 +1,5 @@
 -- Rows of trees side by side: lawful ones, their free variables, their trees by number. Assumes nothing.
-use Rattle.std.proofs.Common.{◌≡◌, ℕ, zero, suc, ◌<◌, Bool, true, false, ◌&&◌, [], ◌++◌, replicate, sym, refl, ap, ◌∙◌, subst, append_assoc, arith}
+use Rattle.std.proofs.Common.{◌≡◌, ℕ, zero, suc, ◌<◌, Bool, true, false, ◌&&◌, List, [], ◌++◌, length, replicate, sym, refl, ap, ◌∙◌, subst, append_assoc, arith}
 use lib.ListN.{length-replicate}
 use Rattle.terms.specs.Cells.{binder}
 use Rattle.terms.specs.Rows.{Row, width, ◌&◌, fvs, frees, own, above, pick}
@@ -9,6 +9,12 @@ use Rattle.terms.proofs.Moves.{ground}
 use Rattle.lets.specs.Syntax.{Sort, admits, kids, Lawful, Term, Terms, light}
 use Rattle.lets.specs.Syntax.Sort.{term}
 use Rattle.lets.specs.Figure.{binding}
+use Rattle.lets.specs.Lightness.{LightAsked}
+use Rattle.moves.specs.Images.{nothing}
+use Rattle.rewriting.specs.Matchings.{LightBound}
+use Rattle.std.specs.Borrow.{Bor}
+use Rattle.std.specs.Bool.{MatchBool}
+use Rattle.std.specs.List.{AllWithin, HoldsAt}
 
 -- each tree of the sort
 abbrev pub Each : Sort → Row → Type 0
@@ -61,16 +67,6 @@ side_terms zero f h = tt
 side_terms (suc n) f h =
     each-& term (f 0) (side n (λ x. f (suc x))) (each_of term 1 (f 0) (h 0 (omega arith))) (side_terms n (λ x. f (suc x)) (λ x l. h (suc x) (omega arith)))
 
--- rows with the same trees
-pub rows_same : (a b : Row) → width a ≡ width b → ((x : ℕ) → x < width a → pick a x [] ≡ pick b x []) → a ≡ b
-rows_same none none w h = refl
-rows_same none (node d js s) w h = absurd (omega arith)
-rows_same (node c ks r) none w h = absurd (omega arith)
-rows_same (node c ks r) (node d js s) w h =
-    let e = h 0 (omega arith) in
-    let q = rows_same r s (omega arith) (λ n l. h (suc n) (omega arith)) in
-    cc (e, q)
-
 -- each tree of terms is a term
 pub each_term : (θ : Row) (x : ℕ) → Terms θ → x < width θ → Term (binding θ x)
 each_term none x h l = absurd (omega arith)
@@ -98,3 +94,11 @@ not_light (node c ks r) (suc x) l h = second _ (light r) (not_light r x (omega a
     second : (a b : Bool) → b ≡ false → (a && b) ≡ false
     second true b p = p
     second false b p = refl
+
+-- the bindings are light exactly if each of their cells are
+pub bindings_light : (values : List (Bor (List ℕ))) (r : Bool) → MatchBool r (AllWithin (λ v. LightAsked v.now true) values 0 (length values)) ((k : ℕ) × (k < length values) × HoldsAt (λ v. LightAsked v.now false) values k) → LightBound values r
+bindings_light values true a θ b =
+    sym (all_light θ (λ x l. sym (a x nothing (omega arith) (omega (arith, b.wide)) 1 (binding θ x) (each_term θ x b.terms l) (b.reads x (omega (arith, b.wide))))))
+bindings_light values false (k, l, heavy) θ b =
+    let w : k < width θ = omega (arith, b.wide) in
+    sym (not_light θ k w (sym (heavy nothing 1 (binding θ k) (each_term θ k b.terms w) (b.reads k l))))

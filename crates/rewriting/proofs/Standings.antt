@@ -1,5 +1,5 @@
 -- The terms of a redex and where their parts stand. Assumes nothing.
-use Rattle.std.proofs.Common.{◌≡◌, ℕ, ◌+◌, ◌≤◌, List, [], ◌++◌, length, get_or, sym, refl, ap, ◌∙◌, append-nil, arith}
+use Rattle.std.proofs.Common.{◌≡◌, ℕ, ◌+◌, ◌<◌, ◌≤◌, List, [], ◌++◌, length, get_or, sym, refl, ap, ◌∙◌, append-nil, arith}
 use Rattle.terms.specs.Cells.{kind}
 use Rattle.terms.specs.Rows.{Row, flat, size, width, kind_of, ◌&◌, Counted}
 use Rattle.terms.specs.Rows.Row.{none, node}
@@ -11,7 +11,11 @@ use Rattle.terms.proofs.Steps.{opened}
 use Rattle.terms.proofs.Endings as Endings
 use Rattle.lets.specs.Syntax.{Term}
 use Rattle.lets.proofs.Meaning.{formed}
-use Rattle.rewriting.specs.Steps.{TermAt}
+
+-- a lawful term stands at a cell
+pub record TermAt (t : Row) (cells : List ℕ) (at : ℕ) : Type 0 where
+  pub lawful : Term t
+  pub stands : Stands t 1 cells at
 
 -- a lawful term stands at the front of the cells that it fills
 pub spelled : {cells : List ℕ} (t : Row) → Term t → flat t ≡ cells → TermAt t cells 0
@@ -69,3 +73,7 @@ pub term_here : (t : Row) {at : ℕ} {cells : List ℕ} → TermAt t cells at �
 term_here none s = absurd s.lawful
 term_here (node c ks (node d js r)) s = absurd s.lawful.2
 term_here (node c ks none) s = omega (arith, tree_within c ks s.stands)
+
+-- one tree has a cell
+pub tree_here : {t : Row} {at : ℕ} {cells : List ℕ} → Stands t 1 cells at → at < length cells
+tree_here {t} s = let o = opened t s (λ e. omega arith) in omega (arith, o.within, o.sized)

@@ -11,9 +11,9 @@ use Rattle.terms.proofs.Steps.{moved}
 use Rattle.lets.specs.Syntax.{admits, kids, Lawful, Term, Terms}
 use Rattle.lets.specs.Syntax.Sort.{term}
 use Rattle.lets.specs.Figure.{Carries}
-use Rattle.lets.proofs.MoreLaws.{one_wide, term_kids}
-use Rattle.rewriting.specs.Steps.{TermAt}
-use Rattle.rewriting.proofs.Standings.{stands_left, stands_right, cell_here, kids_here, top_here}
+use Rattle.lets.proofs.Laws.{one_wide}
+use Rattle.lets.proofs.MoreLaws.{term_kids}
+use Rattle.rewriting.proofs.Standings.{TermAt, stands_left, stands_right, cell_here, kids_here, top_here}
 
 -- terms cut before and after the one of a number
 record Cut (n : ℕ) (ks : Row) : Type 0 where

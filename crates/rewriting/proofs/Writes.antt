@@ -1,12 +1,18 @@
 -- A row written at the front of a space piece by piece, for a line that gives it. Assumes nothing.
-use Rattle.std.proofs.Common.{◌≡◌, ℕ, ◌+◌, ◌≤◌, List, [], ◌++◌, length, sym, refl, ap, ◌∙◌, arith, length-append}
+use Rattle.std.proofs.Common.{◌≡◌, ℕ, ◌+◌, ◌≤◌, List, [], ◌++◌, length, sym, refl, ap, ◌∙◌, subst, arith, length-append}
 use Rattle.terms.specs.Lists.{over}
 use Rattle.terms.specs.Rows.{Row, flat, size}
+use Rattle.terms.specs.Standing.{Stands}
 use Rattle.terms.proofs.Trees.{flat_size}
+use Rattle.terms.proofs.Standings.{stands_same}
 use Rattle.terms.proofs.Steps.{over-++}
 use Rattle.moves.proofs.Overs.{over_front}
 use Rattle.calculus.specs.Line.{Line, Gives}
 use Rattle.calculus.specs.Written.{Wrote}
+
+-- trees of that number at that cell fit
+pub fits_from : (to : ℕ) {u : Row} {n at most : ℕ} {cells : List ℕ} → Stands u n cells at → to + size u ≤ most → (t : Row) → Stands t n cells at → to + size t ≤ most
+fits_from to {most = most} s l t r = subst (λ v. to + size v ≤ most) (stands_same s r) l
 
 -- the n cells xs stand at the front of the space
 pub record Filled (space out xs : List ℕ) (n : ℕ) : Type 0 where

@@ -1,3 +1,5 @@
+pub mod Rules
+pub mod Redexes
 pub mod Steps
 pub mod Matchings
 pub mod Programs

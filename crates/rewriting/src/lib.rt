@@ -3,11 +3,10 @@
 
 ghost use Rattle.std.specs.Prelude.{◌<◌, Decides};
 ghost use Rattle.terms.specs.Rows.{width};
-ghost use Rattle.calculus.specs.Figures.{Spells};
-ghost use Rattle.calculus.specs.Line.{Redex};
-ghost use Rattle.lets.specs.Syntax.{Term, Has};
-ghost use Rattle.lets.specs.Figure.{HasRule, Apt, fapp as fapp_line};
+ghost use Rattle.lets.specs.Syntax.{Has};
+ghost use Rattle.lets.specs.Figure.{Apt, fapp as fapp_line};
 ghost use Rattle.lets.specs.Meaning.{meaning as lets_meaning};
+ghost use Rattle.rewriting.specs.Rules.{number};
 ghost use Rattle.rewriting.specs.Steps.{Steps};
 ghost use Rattle.rewriting.specs.Programs.{program};
 ghost use Rattle.lets.proofs.MoreLaws.{keeps_laws};
@@ -19,7 +18,9 @@ pub mod fapp;
 pub mod flat;
 pub mod letin;
 pub mod matching;
-pub mod parts;
+pub mod redex;
+pub mod rule;
+mod writing;
 
 use bind::bind_light;
 use calculus::Calculus;
@@ -30,18 +31,9 @@ use flat::flatten_lets;
 use letin::let_in;
 use lets::judge::judge;
 use lets::rules::Rules;
+use redex::Redex;
+use rule::Rule;
 use terms::place::down;
-use terms::small::has_small_variables;
-
-// The number of the last rule.
-const RULES: u8 = 5;
-
-// May a rule be tried on the cells: are they a lawful term with no variable payload above 65,535?
-fn is_redex(cells: &[u64]) -> bool
-    ensures { Decides result (Redex Term cells.now) }
-{
-    judge(cells).is_ok() && has_small_variables(cells)
-}
 
 #[derive(Drop)]
 pub struct LetRewriting {
@@ -59,30 +51,26 @@ impl LetRewriting {
     }
 
     // Are the argument and the inner place used as the rule asks?
-    fn is_apt(&self, rule: u8, argument: u8, inner: &[u8]) -> bool
-        requires { HasRule rule }
-        ensures { Decides result (Apt (program self.now) rule argument inner.now) }
+    fn is_apt(&self, rule: Rule, argument: u8, inner: &[u8]) -> bool
+        ensures { Decides result (Apt (program self.now) (number rule) argument inner.now) }
     {
         if !inner.is_empty() {
             return false;
         }
         match rule {
-            1 => self.rules.rule(argument as usize).is_some(),
-            2 => true,
-            _ => argument == 0,
+            Rule::Fapp => self.rules.rule(argument as usize).is_some(),
+            Rule::LetIn => true,
+            Rule::Bind | Rule::Elim | Rule::Flat => argument == 0,
         }
     }
 
     // Fapp by the program rule that the argument numbers.
-    fn call_rule(&self, argument: u8, redex: &[u64], space: &mut [u64]) -> Result<usize, No>
-        requires rule { argument < width (program self.now) }
-        requires redex { Spells Term redex.now }
-        ensures { Steps (fapp_line (program self.now) argument) redex.now space.old space.new result }
+    fn call_rule(&self, argument: u8, redex: Redex, space: &mut [u64]) -> Result<usize, No>
+        requires { argument < width (program self.now) }
+        ensures { Steps (fapp_line (program self.now) argument) redex.entry.cells.now space.old space.new result }
     {
-        match self.rules.rule(argument as usize) {
-            Some((start, end)) => call(&self.rules.cells()[start..end], redex, space),
-            None => unreachable(),
-        }
+        let (start, end) = self.rules.rule(argument as usize).unwrap();
+        call(&self.rules.cells()[start..end], redex, space)
     }
 }
 
@@ -107,21 +95,17 @@ impl Calculus for LetRewriting {
         redex: &[u64],
         space: &mut [u64],
     ) -> Result<usize, No> {
-        if rule == 0 || rule > RULES {
-            return Err(No::NoRule);
-        }
+        let rule = Rule::try_from(rule)?;
         if !self.is_apt(rule, argument, inner) {
             return Err(No::Unfit);
         }
-        if !is_redex(redex) {
-            return Err(No::Formless);
-        }
+        let redex = Redex::read(redex)?;
         match rule {
-            1 => self.call_rule(argument, redex, space),
-            2 => let_in(argument, redex, space),
-            3 => bind_light(redex, space),
-            4 => eliminate(redex, space),
-            _ => flatten_lets(redex, space),
+            Rule::Fapp => self.call_rule(argument, redex, space),
+            Rule::LetIn => let_in(argument, redex, space),
+            Rule::Bind => bind_light(redex, space),
+            Rule::Elim => eliminate(redex, space),
+            Rule::Flat => flatten_lets(redex, space),
         }
     }
 }
@@ -129,7 +113,7 @@ impl Calculus for LetRewriting {
 #[cfg(test)]
 mod tests {
     use super::*;
-    use crate::parts::LET_CELL;
+    use crate::redex::LET_CELL;
     use std::test::Fail;
 
     // Constructors 1 and 2, functions 3 and 4.

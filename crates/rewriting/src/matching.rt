@@ -1,47 +1,46 @@
 // Patterns matched against the terms of a redex.
 ghost use Rattle.std.specs.Prelude.{length};
 ghost use Rattle.terms.specs.Rows.{Row};
-ghost use Rattle.rewriting.specs.Matchings.{Facing, Bound, Matched, LightBound};
+ghost use Rattle.rewriting.specs.Matchings.{Facing, Matched, LightBound};
 
+use lets::kind::Kind;
 use lets::light::is_light;
-use lets::sort::VARIABLE;
-use moves::images::Span;
-use moves::substitution::end_of;
 use terms::cell::{kind, payload};
+use terms::forest::Trees;
 
-// Matches patterns against the terms below the subject's first cell. Notes where the binding of each variable lies,
+// Matches patterns against terms that stand at the front of the cells. Notes the cells of the binding of each variable,
 // and answers how many there are, if the patterns match.
-pub fn match_left(patterns: &[u64], subject: &[u64], spans: &mut [Span]) -> Option<usize>
-    requires { (p : Row) × (ts : Row) × Facing p ts patterns.now subject.now (length spans.old) }
-    ensures { (p ts : Row) → Facing p ts patterns.now subject.now (length spans.old) → Matched p ts subject.now spans.new result }
+pub fn match_left<'r>(patterns: &[u64], terms: &'r [u64], values: &mut [&'r [u64]]) -> Option<usize>
+    requires { (p : Row) × (ts : Row) × Facing p ts patterns.now terms.now (length values.old) }
+    ensures { (p ts : Row) → Facing p ts patterns.now terms.entry.now (length values.old) → Matched p ts values.new result }
 {
-    let mut at = 1;
+    let mut rest = terms;
     let mut n = 0;
     for c in patterns {
-        if kind(*c) == VARIABLE {
-            let end = end_of(subject, at, 1);
-            spans[payload(*c) as usize] = Span { start: at, end };
-            at = end;
+        if kind(*c) == Kind::Variable as u8 {
+            let first = Trees {
+                cells: rest,
+                at: 0,
+                n: 1,
+            };
+            let (value, others) = rest.split_at(first.end());
+            values[payload(*c) as usize] = value;
+            rest = others;
             n += 1;
         } else {
-            if subject[at] != *c {
+            let (first, others) = rest.split_first()?;
+            if first != c {
                 return None;
             }
-            at += 1;
+            rest = others;
         }
     }
     Some(n)
 }
 
 // Are the bindings all light?
-pub fn are_light(subject: &[u64], spans: &[Span]) -> bool
-    requires { (θ : Row) × Bound θ (length spans.now) subject.now spans.now }
-    ensures { LightBound subject.now spans.now result }
+pub fn are_light(values: &[&[u64]]) -> bool
+    ensures { LightBound values.now result }
 {
-    for span in spans {
-        if !is_light(subject, span.start, span.end) {
-            return false;
-        }
-    }
-    true
+    values.iter().all(|value| is_light(value))
 }

@@ -1,5 +1,5 @@
 use Rattle.std.proofs.Common.{◌≡◌, max, sym, refl, ◌∙◌, arith, rules}
-use Rattle.terms.proofs.Judgings.{lies_none, lies_child, lies_as, lies_bounds, exit_from}
+use Rattle.terms.proofs.Judgings.{lies_child, lies_as, lies_bounds, exit_from}
 use Rattle.lets.specs.Syntax.{admits, kids}
 use Rattle.lets.specs.Syntax.Sort.{term}
 use Rattle.lets.proofs.Judges.{term_end, term_bad, term_stuck, term_lies}
@@ -10,14 +10,6 @@ returns-then-at-cells t c = term_end _ _ (omega arith)
 
 pub returns-then-not-is_term_cell : goal.returns-then-not-is_term_cell
 returns-then-not-is_term_cell t c = term_bad _ _ (omega arith) (sym c.if-not-is_term_cell.ensures)
-
-pub loop-judged-init : goal.loop-judged-init
-loop-judged-init t c = lies_none admits kids _ _ (omega arith)
-
-pub term_at-requires : goal.term_at-requires
-term_at-requires t c =
-    let b = lies_bounds admits kids c.loop-judged.invariant in
-    (omega arith, omega arith)
 
 pub returns-in_err-next : goal.returns-in_err-next
 returns-in_err-next t c =

@@ -1,10 +1,17 @@
-use Rattle.std.proofs.Common.{◌≤◌, length, sym, arith}
+use Rattle.std.proofs.Common.{rules, ◌-◌, ◌≤◌, length, take, drop, Decides, sym, arith}
+use borrow.Author.Tests.{tests}
+use Rattle.std.proofs.lemmas.Iterator.{YieldsList-from_slice}
+use Rattle.std.proofs.lemmas.Iterator.Search.{all_from_yields_List}
 use Rattle.std.proofs.lemmas.Bool.Decides.{not_from_Decides}
 use Rattle.terms.specs.Terms.{Laid}
 use Rattle.terms.proofs.Deciding.{fails, contrary}
+use Rattle.lets.specs.Syntax.{admits}
+use Rattle.lets.specs.Syntax.Sort.{term}
+use Rattle.lets.specs.Checks.{Admitted}
+use Rattle.lets.proofs.Sides.{admitted_all}
 use Rattle.lets.proofs.Arrows.{Sides, not_empty, sides, has_sides, rule_laid, rule_first, not_left, not_right, not_numbered, rule_decided}
 use Rattle.lets.proofs.program.is_program_rule.Goals as goal
-use Rattle.lets.proofs.program.is_program_rule.Goals.{In-Some}
+use Rattle.lets.proofs.program.is_program_rule.Goals.{In-Some, After-all}
 
 laid : (c : goal.In-Some) → Laid c.args.cells.now
 laid c = c.keeps_layout.ensures.0 c.if-not-keeps_layout.false
@@ -32,27 +39,22 @@ pub returns-then-not-are_left_cells : goal.returns-then-not-are_left_cells
 returns-then-not-are_left_cells c =
     fails (not_left _ _ (sides_of (goal.at.returns-then-not-are_left_cells c).In-Some) (not_from_Decides _ c.are_left_cells.ensures c.if-not-are_left_cells.true))
 
-pub offset_bounds-cells-middle : goal.offset_bounds-cells-middle
-offset_bounds-cells-middle c = let s = sides_of (goal.at.offset_bounds-cells-middle c).In-Some in let w : c.in-Some.middle ≤ length c.args.cells.now = s.within in omega arith
+-- is the right side admitted?
+right_admitted : (c : goal.After-all) → Decides c.all.result (Admitted term (take (length c.args.cells.now - c.in-Some.middle) (drop c.in-Some.middle c.args.cells.now)))
+right_admitted c =
+    admitted_all term _ _ (all_from_yields_List (admits term) _ _ _ c.all.ensures.ran (YieldsList-from_slice _ cc) (λ x b q k. search (rules, tests)))
 
-pub slice_bounds-are_term_cells-count : goal.slice_bounds-are_term_cells-count
-slice_bounds-are_term_cells-count c = (sides_of (goal.at.slice_bounds-are_term_cells-count c).In-Some).within
-
-pub slice_bounds-are_term_cells-start : goal.slice_bounds-are_term_cells-start
-slice_bounds-are_term_cells-start c = (sides_of (goal.at.slice_bounds-are_term_cells-start c).In-Some).within
-
-pub returns-then-not-are_term_cells : goal.returns-then-not-are_term_cells
-returns-then-not-are_term_cells c =
-    fails (not_right _ _ (sides_of (goal.at.returns-then-not-are_term_cells c).In-Some) (not_from_Decides _ c.are_term_cells.ensures c.if-not-are_term_cells.true))
+pub returns-then-not-all : goal.returns-then-not-all
+returns-then-not-all c =
+    fails (not_right _ _ (sides_of (goal.at.returns-then-not-all c).In-Some) (not_from_Decides _ (right_admitted (goal.at.returns-then-not-all c).After-all) c.if-not-all.true))
 
 pub returns-in_default-variables : goal.returns-in_default-variables
 returns-in_default-variables c = fails (not_numbered _ _ (sides_of (goal.at.returns-in_default-variables c).In-Some) c.in_default-variables.ensures)
 
-pub bounded-requires : goal.bounded-requires
-bounded-requires c =
-    let s = sides_of (goal.at.bounded-requires c).In-Some in
-    record { row = (s.r, s.stands); few = (omega arith, c.in-Some-variables.ensures.1) }
+pub invariant_of-right : goal.invariant_of-right
+invariant_of-right c = let s = sides_of (goal.at.invariant_of-right c).In-Some in record { standing = ∣ (s.r, s.stands) ∣₁ }
 
 pub returns : goal.returns
 returns c =
-    rule_decided _ _ (sides_of (goal.at.returns c).In-Some) (laid (goal.at.returns c).In-Some) (c.are_left_cells.ensures.0 c.if-not-are_left_cells.false) (c.are_term_cells.ensures.0 c.if-not-are_term_cells.false) _ c.in-Some-variables.ensures c.bounded.result _ c.is_some.ensures c.bounded.ensures
+    let s = sides_of (goal.at.returns c).In-Some in
+    rule_decided _ _ s (laid (goal.at.returns c).In-Some) (c.are_left_cells.ensures.0 c.if-not-are_left_cells.false) ((right_admitted (goal.at.returns c).After-all).0 c.if-not-all.false) _ c.in-Some-variables.ensures c.bounded.result _ c.is_some.ensures c.bounded.ensures

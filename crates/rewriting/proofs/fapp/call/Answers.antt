@@ -1,100 +1,126 @@
-use Rattle.std.proofs.Common.{◌≡◌, ℕ, ◌+◌, ◌-◌, false, List, length, take, sym, refl, ap, ◌∙◌, subst, arith, Bor}
+use Rattle.std.proofs.Common.{rules, ◌≡◌, ℕ, ◌+◌, ◌-◌, ◌⊎◌, false, get_or, length, take, drop, None, Some, refl, sym, ap, ◌∙◌, subst, arith}
 use Rattle.std.proofs.lemmas.Bool.Decides.{not_from_Decides}
-use Rattle.terms.specs.Lists.{over}
+use Rattle.std.proofs.lemmas.List.{length-take-le}
+use Rattle.terms.specs.Cells.{kind, children, payload}
 use Rattle.terms.specs.Rows.{Row, flat, size, substitute}
-use Rattle.moves.specs.declared.images.Span.{Span}
-use Rattle.moves.specs.declared.images.Substitution.{Substitution}
-use Rattle.moves.specs.declared.images.Substitution.TheVariants.{Bindings}
-use Rattle.moves.specs.Images.{Shows}
-use Rattle.moves.proofs.Calls.{shows_sizes}
-use Rattle.lets.specs.Syntax.{light}
-use Rattle.lets.specs.Figure.{binding}
-use Rattle.rewriting.specs.Matchings.{Bound}
-use Rattle.rewriting.proofs.Standings.{spelled}
-use Rattle.rewriting.proofs.Callings.{parted, left_at, calls_head, applied, facing, called_match, called, gives_right}
-use Rattle.rewriting.proofs.Givens.{bound_front, given, shows_bound, given_same}
-use Rattle.rewriting.proofs.Writes.{wrote}
+use Rattle.calculus.specs.declared.no.No.TheVariants.{Formless}
+use Rattle.moves.specs.Substitutions.{Put}
+use Rattle.lets.specs.Syntax.{light, ProgramRule}
+use Rattle.lets.specs.Figure.{Called, binding, fapp}
+use Rattle.rewriting.specs.Matchings.{Facing, Bound, Matched}
+use Rattle.rewriting.proofs.Standings.{TermAt, spelled}
+use Rattle.rewriting.proofs.Callings.{Parted, Applied, left_at, parted, rule_long, applied, facing, calls_head, called_match, called, gives_right}
+use Rattle.rewriting.proofs.Givens.{bound_front, given, shows_given, given_same}
+use Rattle.rewriting.proofs.Redexes.{spelling, at_front}
+use Rattle.rewriting.proofs.Steps.{ok_or_err, ok_or_ok, put_row}
 use Rattle.rewriting.proofs.fapp.call.Goals as goal
+use Rattle.rewriting.proofs.fapp.call.Goals.{After-end, In_ok-n}
 
--- the bindings stand for the variables
-shown : {redex : List ℕ} (θ : Row) (how : Substitution) (spans : Bor (List Span)) → how ≡ Bindings spans → Bound θ (length spans.now) redex spans.now → Shows redex how (given θ (length spans.now))
-shown {redex} θ how spans e b = subst (λ h. Shows redex h (given θ (length spans.now))) (sym e) (shows_bound spans b)
+-- the parts of the rule, whatever program rule it is
+parts : (c : goal.After-end) {ρ : Row} → ProgramRule ρ → flat ρ ≡ c.args.rule.now → Parted ρ c.args.rule.now c.end.result
+parts c g e = parted g e c.end.result (c.end.ensures g.l (left_at g e))
+
+-- the first cell calls the head of the rule
+calling : (c : goal.After-end) {t ρ : Row} (s : TermAt t c.args.redex.cells.now 0) (q : Parted ρ c.args.rule.now c.end.result) → Applied t c.args.redex.cells.now q.f q.p
+calling c s q =
+    applied s q (subst (λ h. ((kind h ≡ 33) ⊎ (kind h ≡ 34)) × (payload h ≡ payload (get_or c.args.rule.now 1 0)) × (children h ≡ children (get_or c.args.rule.now 1 0))) c.head.ensures (c.calls.ensures.0 c.if-not-calls.false))
+
+-- the patterns face the terms of the redex
+faced : (c : goal.After-end) {t ρ : Row} (s : TermAt t c.args.redex.cells.now 0) (q : Parted ρ c.args.rule.now c.end.result) → Facing q.p (calling c s q).ts (take (c.end.result - 2) (drop 2 c.args.rule.now)) (take (length c.args.redex.cells.now - 1) (drop 1 c.args.redex.cells.now)) 1024
+faced c s q = facing s q (calling c s q) _ _ 1024 refl refl refl
+
+-- the bindings that were found
+found : (c : goal.In_ok-n) {t ρ : Row} (s : TermAt t c.args.redex.cells.now 0) (q : Parted ρ c.args.rule.now c.end.result) → Matched q.p (calling (goal.at-In_ok-n c).After-end s q).ts c.match_left.new.values (Some c.in_ok-n.n)
+found c s q =
+    let d = (goal.at-In_ok-n c).After-end in
+    subst (Matched q.p (calling d s q).ts c.match_left.new.values) (ok_or_ok c.match_left.result Formless c.ok_or.ensures.value c.in_ok-n.was) (c.match_left.ensures q.p (calling d s q).ts (faced d s q))
 
 pub returns-then-not-calls : goal.returns-then-not-calls
 returns-then-not-calls c = λ program argument o t h e.
-    (refl, λ l. not_from_Decides _ c.calls.ensures c.if-not-calls.true (calls_head (spelled t h e) (parted o.0 o.1 (1 + size o.0.l) refl) program argument refl l))
+    let q = parted o.0 o.1 (1 + size o.0.l) refl in
+    let s = spelled t h e in
+    (refl, λ l. not_from_Decides _ c.calls.ensures c.if-not-calls.true (subst (λ h. ((kind h ≡ 33) ⊎ (kind h ≡ 34)) × (payload h ≡ payload (get_or c.args.rule.now 1 0)) × (children h ≡ children (get_or c.args.rule.now 1 0))) (sym c.head.ensures) (calls_head s q program argument refl l)))
 
-pub end_of-right-requires : goal.end_of-right-requires
-end_of-right-requires c = let g = c.requires.rule in (g.lawful.l, left_at g.lawful g.reads)
+pub bounds-rule-1 : goal.bounds-rule-1
+bounds-rule-1 c = let g = c.requires in let w = rule_long g.lawful g.reads in omega arith
+
+pub invariant_of-left : goal.invariant_of-left
+invariant_of-left c = let g = c.requires in record { standing = ∣ (_, left_at g.lawful g.reads) ∣₁ }
+
+pub invariant_of-right : goal.invariant_of-right
+invariant_of-right c =
+    let g = c.requires in
+    let q = parted g.lawful g.reads _ (c.end.ensures g.lawful.l (left_at g.lawful g.reads)) in
+    record { standing = ∣ (_, q.right_at.stands) ∣₁ }
 
 pub slice_bounds-match_left-count : goal.slice_bounds-match_left-count
 slice_bounds-match_left-count c =
-    let g = c.requires.rule in
-    let q = parted g.lawful g.reads c.end_of-right.result (c.end_of-right.ensures g.lawful.l (left_at g.lawful g.reads)) in
-    omega arith
+    let q = parts (goal.at.slice_bounds-match_left-count c).After-end c.requires.lawful c.requires.reads in
+    let z = q.right_is in omega arith
 
 pub slice_bounds-match_left-start : goal.slice_bounds-match_left-start
 slice_bounds-match_left-start c =
-    let g = c.requires.rule in
-    let q = parted g.lawful g.reads c.end_of-right.result (c.end_of-right.ensures g.lawful.l (left_at g.lawful g.reads)) in
-    omega arith
+    let q = parts (goal.at.slice_bounds-match_left-start c).After-end c.requires.lawful c.requires.reads in
+    let z = q.right_is in let w = q.within in omega arith
 
 pub slice_bounds-match_left-end : goal.slice_bounds-match_left-end
 slice_bounds-match_left-end c =
-    let g = c.requires.rule in
-    let q = parted g.lawful g.reads c.end_of-right.result (c.end_of-right.ensures g.lawful.l (left_at g.lawful g.reads)) in
-    omega arith
+    let q = parts (goal.at.slice_bounds-match_left-end c).After-end c.requires.lawful c.requires.reads in
+    let w = q.within in omega arith
 
 pub match_left-requires : goal.match_left-requires
 match_left-requires c =
-    let g = c.requires.rule in
-    let q = parted g.lawful g.reads c.end_of-right.result (c.end_of-right.ensures g.lawful.l (left_at g.lawful g.reads)) in
-    let s = spelled c.requires.redex.row c.requires.redex.lawful c.requires.redex.reads in
-    let a = applied s q (c.calls.ensures.0 c.if-not-calls.false) in
-    let f = facing s q a _ 1024 refl refl in
-    (q.p, a.ts, f)
+    let d = (goal.at.match_left-requires c).After-end in
+    let q = parts d c.requires.lawful c.requires.reads in
+    let s = at_front (spelling c.args.redex.lawful) in
+    (q.p, (calling d s q).ts, faced d s q)
 
-pub returns-in_default : goal.returns-in_default
-returns-in_default c = λ program argument o t h e.
-    let q = parted o.0 o.1 c.end_of-right.result (c.end_of-right.ensures o.0.l (left_at o.0 o.1)) in
+pub returns-in_err-n : goal.returns-in_err-n
+returns-in_err-n c = λ program argument o t h e.
+    let d = (goal.at.returns-in_err-n c).After-end in
+    let q = parts d o.0 o.1 in
     let s = spelled t h e in
-    let a = applied s q (c.calls.ensures.0 c.if-not-calls.false) in
-    let f = facing s q a _ 1024 refl refl in
-    (refl, λ l. c.in_default.ensures q.p a.ts f l.θ (called_match s q program argument refl a l).1)
+    let bad = ok_or_err c.match_left.result Formless c.ok_or.ensures.value c.in_err-n.was in
+    let bad_is = bad.0 in
+    let no_match : Matched q.p (calling d s q).ts c.match_left.new.values None =
+    subst (Matched q.p (calling d s q).ts c.match_left.new.values) bad.1 (c.match_left.ensures q.p (calling d s q).ts (faced d s q)) in
+    let none_there : (Called program argument t → ⊥) = λ l. no_match l.θ (called_match s q program argument refl (calling d s q) l).1 in
+    search rules
+
+pub slice_bounds-values-end : goal.slice_bounds-values-end
+slice_bounds-values-end c =
+    let d = (goal.at.slice_bounds-values-end c).In_ok-n in
+    let q = parts (goal.at.slice_bounds-values-end c).After-end c.requires.lawful c.requires.reads in
+    let m = (found d (at_front (spelling c.args.redex.lawful)) q).0 in
+    let few = q.few in
+    omega arith
 
 pub slice_bounds-bound-end : goal.slice_bounds-bound-end
 slice_bounds-bound-end c =
-    let g = c.requires.rule in
-    let q = parted g.lawful g.reads c.end_of-right.result (c.end_of-right.ensures g.lawful.l (left_at g.lawful g.reads)) in
-    let s = spelled c.requires.redex.row c.requires.redex.lawful c.requires.redex.reads in
-    let a = applied s q (c.calls.ensures.0 c.if-not-calls.false) in
-    let f = facing s q a _ 1024 refl refl in
-    let m = c.in-Some.ensures q.p a.ts f in
-    let θ = m.1.0 in
-    omega (arith, m.0, q.few)
+    let d = (goal.at.slice_bounds-bound-end c).In_ok-n in
+    let q = parts (goal.at.slice_bounds-bound-end c).After-end c.requires.lawful c.requires.reads in
+    let m = (found d (at_front (spelling c.args.redex.lawful)) q).0 in
+    let few = q.few in
+    sym (length-take-le c.in_ok-n.n c.match_left.new.values (omega arith))
 
-pub are_light-requires : goal.are_light-requires
-are_light-requires c =
-    let g = c.requires.rule in
-    let q = parted g.lawful g.reads c.end_of-right.result (c.end_of-right.ensures g.lawful.l (left_at g.lawful g.reads)) in
-    let s = spelled c.requires.redex.row c.requires.redex.lawful c.requires.redex.reads in
-    let a = applied s q (c.calls.ensures.0 c.if-not-calls.false) in
-    let f = facing s q a _ 1024 refl refl in
-    let m = c.in-Some.ensures q.p a.ts f in
-    let θ = m.1.0 in
-    let b = bound_front (c.in-Some.n - 0) (omega arith) (omega (arith, m.0, q.few)) m.1.1 in
-    (θ, b)
+-- these bindings, as the code has them
+bound : (c : goal.In_ok-n) {t ρ : Row} (s : TermAt t c.args.redex.cells.now 0) (q : Parted ρ c.args.rule.now c.end.result) → Bound (found c s q).1.0 (length (take c.in_ok-n.n c.match_left.new.values)) (take c.in_ok-n.n c.match_left.new.values)
+bound c s q =
+    let m = found c s q in
+    let many = m.0 in
+    let few = q.few in
+    bound_front c.in_ok-n.n refl (omega arith) m.1.1
 
 pub returns-then-not-are_light : goal.returns-then-not-are_light
 returns-then-not-are_light c = λ program argument o t h e.
-    let q = parted o.0 o.1 c.end_of-right.result (c.end_of-right.ensures o.0.l (left_at o.0 o.1)) in
+    let k = (goal.at.returns-then-not-are_light c).In_ok-n in
+    let d = (goal.at.returns-then-not-are_light c).After-end in
+    let q = parts d o.0 o.1 in
     let s = spelled t h e in
-    let a = applied s q (c.calls.ensures.0 c.if-not-calls.false) in
-    let f = facing s q a _ 1024 refl refl in
-    let m = c.in-Some.ensures q.p a.ts f in
+    let a = calling d s q in
+    let m = found k s q in
     let θ = m.1.0 in
-    let b = bound_front (c.in-Some.n - 0) (omega arith) (omega (arith, m.0, q.few)) m.1.1 in
-    let no : false ≡ light θ = c.if-not-are_light.ensures θ b in (
+    let heavy : false ≡ light θ = c.if-not-are_light.ensures θ (bound k s q) in (
       refl,
       (
         called s q program argument refl a θ m.0 m.1.1 m.1.2,
@@ -102,61 +128,27 @@ returns-then-not-are_light c = λ program argument o t h e.
             let w = called_match s q program argument refl a l in
             let same : l.θ ≡ θ = m.1.3 l.θ (w.0 ∙ sym m.0) w.1 in
             let lights = ap light same in
-            let z : ◌≡◌ {A = ℕ} 0 1 = cc (no, lights, yes) in
+            let z : ◌≡◌ {A = ℕ} 0 1 = cc (heavy, lights, yes) in
             omega arith,
       ),
     )
 
-pub count_row-requires : goal.count_row-requires
-count_row-requires c =
-    let g = c.requires.rule in
-    let q = parted g.lawful g.reads c.end_of-right.result (c.end_of-right.ensures g.lawful.l (left_at g.lawful g.reads)) in
-    record { row = (q.r, q.right_at.stands); low = omega arith }
+pub substitute-requires : goal.substitute-requires
+substitute-requires c =
+    let k = (goal.at.substitute-requires c).In_ok-n in
+    let q = parts (goal.at.substitute-requires c).After-end c.requires.lawful c.requires.reads in
+    (_, shows_given c.bindings.ensures (bound k (at_front (spelling c.args.redex.lawful)) q))
 
-pub substitute_row-count-requires : goal.substitute_row-count-requires
-substitute_row-count-requires c =
-    let g = c.requires.rule in
-    let q = parted g.lawful g.reads c.end_of-right.result (c.end_of-right.ensures g.lawful.l (left_at g.lawful g.reads)) in
-    let s = spelled c.requires.redex.row c.requires.redex.lawful c.requires.redex.reads in
-    let a = applied s q (c.calls.ensures.0 c.if-not-calls.false) in
-    let f = facing s q a _ 1024 refl refl in
-    let m = c.in-Some.ensures q.p a.ts f in
-    let θ = m.1.0 in
-    let b = bound_front (c.in-Some.n - 0) (omega arith) (omega (arith, m.0, q.few)) m.1.1 in
-    let sh = shown θ c.bindings-how.result _ c.bindings-how.ensures b in
-    let k = (c.in-Some-count_row.ensures q.r _ q.right_at.stands (shows_sizes _ _ _ sh)).1 in
-    record {
-      row = record { row = q.r; stands = q.right_at.stands; s = _; shows = sh; small = omega (arith, k) };
-      fits = omega arith;
-      low = omega arith;
-    }
-
-pub returns-in-None : goal.returns-in-None
-returns-in-None c = λ program argument o t h e.
-    let q = parted o.0 o.1 c.end_of-right.result (c.end_of-right.ensures o.0.l (left_at o.0 o.1)) in
+pub returns : goal.returns
+returns c = λ program argument o t h e.
+    let k = (goal.at.returns c).In_ok-n in
+    let d = (goal.at.returns c).After-end in
+    let q = parts d o.0 o.1 in
     let s = spelled t h e in
-    let a = applied s q (c.calls.ensures.0 c.if-not-calls.false) in
-    let f = facing s q a _ 1024 refl refl in
-    let m = c.in-Some.ensures q.p a.ts f in
+    let a = calling d s q in
+    let m = found k s q in
     let θ = m.1.0 in
-    let b = bound_front (c.in-Some.n - 0) (omega arith) (omega (arith, m.0, q.few)) m.1.1 in
-    let sh = shown θ c.bindings-how.result _ c.bindings-how.ensures b in
-    let k = c.in-None.ensures q.r _ q.right_at.stands (shows_sizes _ _ _ sh) in
-    let same = given_same θ (length (take (c.in-Some.n - 0) c.match_left.new.spans)) q.r (λ x w. omega (arith, q.below x w, m.0, b.wide, m.1.1.wide)) in
-    (refl, (substitute (binding θ) 0 0 q.r, (gives_right s q program argument refl a θ m.0 m.1.1 m.1.2 (sym (c.if-not-are_light.ensures θ b))), omega (arith, k, ap size same)))
-
-pub returns-in-Some-count_row : goal.returns-in-Some-count_row
-returns-in-Some-count_row c = λ program argument o t h e.
-    let q = parted o.0 o.1 c.end_of-right.result (c.end_of-right.ensures o.0.l (left_at o.0 o.1)) in
-    let s = spelled t h e in
-    let a = applied s q (c.calls.ensures.0 c.if-not-calls.false) in
-    let f = facing s q a _ 1024 refl refl in
-    let m = c.in-Some.ensures q.p a.ts f in
-    let θ = m.1.0 in
-    let b = bound_front (c.in-Some.n - 0) (omega arith) (omega (arith, m.0, q.few)) m.1.1 in
-    let sh = shown θ c.bindings-how.result _ c.bindings-how.ensures b in
-    let k = (c.in-Some-count_row.ensures q.r _ q.right_at.stands (shows_sizes _ _ _ sh)).1 in
-    let w = c.substitute_row-count.ensures q.r _ q.right_at.stands sh in
-    let same = given_same θ (length (take (c.in-Some.n - 0) c.match_left.new.spans)) q.r (λ x w. omega (arith, q.below x w, m.0, b.wide, m.1.1.wide)) in
-    let z = ap size same in
-    wrote _ (substitute (binding θ) 0 0 q.r) _ _ _ (gives_right s q program argument refl a θ m.0 m.1.1 m.1.2 (sym (c.if-not-are_light.ensures θ b))) (omega (arith, w.upto)) (omega (arith, k)) (w.wrote ∙ ap (λ u. over c.args.space.now 0 (flat u)) same)
+    let b = bound k s q in
+    let same = given_same θ (length (take c.in_ok-n.n c.match_left.new.values)) q.r (λ x w. omega (arith, q.below x w, m.0, b.wide, m.1.1.wide)) in
+    let put = c.substitute.ensures q.r (given θ (length (take c.in_ok-n.n c.match_left.new.values))) q.right_at.stands (shows_given c.bindings.ensures b) in
+    put_row (fapp program argument t) _ _ (substitute (binding θ) 0 0 q.r) (gives_right s q program argument refl a θ m.0 m.1.1 m.1.2 (sym (c.if-not-are_light.ensures θ b))) _ c.ok_or-2.ensures.value (subst (λ u. Put u c.args.space.now c.substitute.new.out c.substitute.result) same put)

@@ -6,4 +6,4 @@ use Rattle.rewriting.proofs.matching.match_left.Given as goal
 
 abbrev pub invariant-loop-c : goal.invariant-loop-c
 invariant-loop-c l =
-    (l.n ≤ l.c-index) × ((p ts : Row) → Facing p ts l.patterns l.subject (length l.initial.spans) → Going p ts l.patterns l.subject l.spans l.c-index l.at l.n)
+    (l.n ≤ l.c-index) × ((p ts : Row) → Facing p ts l.patterns l.terms (length l.initial.values) → Going p ts l.patterns l.rest l.values l.c-index l.n)

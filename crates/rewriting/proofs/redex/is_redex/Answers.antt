@@ -1,5 +1,5 @@
 use Rattle.rewriting.proofs.Askings.{judged_term, redex_of, redex_small}
-use Rattle.rewriting.proofs.is_redex.Goals as goal
+use Rattle.rewriting.proofs.redex.is_redex.Goals as goal
 
 pub returns-then-is_ok : goal.returns-then-is_ok
 returns-then-is_ok c = (
