@@ -1,2 +1,2 @@
 pub mod Shows
-pub mod Parts
+pub mod Splits

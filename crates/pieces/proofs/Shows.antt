@@ -1,65 +1,81 @@
--- The cells that pieces show, and their number. Assumes nothing.
-use Rattle.std.proofs.Common.{◌≡◌, ℕ, ◌+◌, ◌-◌, ◌<◌, ◌≤◌, List, [], ◌∷◌, length, get_or, take, drop, sym, refl, ap, ◌∙◌, subst, arith, length-append, length-drop}
-use Rattle.std.proofs.lemmas.List.{take_at, drop_more, drop_all, length-take-le}
+-- The cells that pieces show. Assumes nothing.
+use Rattle.std.proofs.Common.{◌≡◌, ℕ, ◌+◌, ◌-◌, ◌<◌, ◌≤◌, List, [], ◌++◌, length, Some, get_or, take, drop, sym, refl, ap, ◌∙◌, append_assoc, append-nil, arith, length-append}
+use borrow.Rule.Slice.PartMut.{put_mid}
+use Rattle.std.proofs.Math.Logic.{∥∥₁_elim, ∥∥₁_map}
+use Rattle.std.proofs.Props.{props}
+use Rattle.std.proofs.lemmas.List.{drop_more, drop_all}
 use Rattle.moves.specs.declared.renaming.Renaming.{Renaming}
 use Rattle.moves.specs.Renamings.{renamed}
-use Rattle.terms.specs.Lists.{over}
-use Rattle.terms.specs.Rows.{Row, flat, size, rename}
-use Rattle.terms.specs.Standing.{Stands}
+use Rattle.terms.specs.Rows.{Row, flat, rename}
+use Rattle.terms.specs.Standing.{Stands, Standing}
+use Rattle.terms.specs.Terms.{TreeOf}
 use Rattle.terms.specs.Reading.{trees}
 use Rattle.terms.proofs.Trees.{flat_size}
 use Rattle.terms.proofs.Bridge.{rename_size}
-use Rattle.terms.proofs.Readings.{reads_flat}
-use Rattle.terms.proofs.Steps.{over-++}
+use Rattle.terms.proofs.Readings.{reads_flat, flat_reads}
+use Rattle.terms.proofs.Standings.{standing, stands_same}
+use Rattle.moves.proofs.Calls.{term_stands}
+use Rattle.pieces.specs.Parts.{OneTree}
 use Rattle.pieces.specs.declared.piece.Piece.{Piece}
-use Rattle.pieces.specs.declared.piece.Piece.TheVariants.{Cell, Copy, Moved}
-use Rattle.pieces.specs.Shown.{between, shown, shown_all, Sound, SoundAll, extent, extent_all}
+use Rattle.moves.proofs.Overs.{Fronts, fronts_none, fronts_next}
+use Rattle.pieces.specs.Shown.{shown, shown_all, Put}
 
--- the cells of trees that stand in a list
-pub stands_between : (t : Row) (n : ℕ) (cells : List ℕ) (a e : ℕ) → Stands t n cells a → e ≡ a + size t → between cells a e ≡ flat t
-stands_between t n cells a e s k =
-    let m : e - a ≡ size t = omega arith in
-    ap (λ i. take i (drop a cells)) m ∙ ap (take (size t)) (sym s.reads) ∙ take_at (flat t) s.rest (size t) (flat_size t)
+-- cells moved are as many
+pub moved_length : (cells : List ℕ) (how : Renaming) → length (flat (rename (renamed how) 0 0 (trees cells))) ≡ length cells
+moved_length cells how =
+    flat_size (rename (renamed how) 0 0 (trees cells)) ∙ rename_size (renamed how) 0 0 (trees cells) ∙ sym (flat_size (trees cells)) ∙ ap length (flat_reads cells)
 
--- and the trees that they read as
-pub stands_trees : (t : Row) (n : ℕ) (cells : List ℕ) (a e : ℕ) → Stands t n cells a → e ≡ a + size t → trees (between cells a e) ≡ t
-stands_trees t n cells a e s k = ap trees (stands_between t n cells a e s k) ∙ reads_flat t s.counted
-
-pub stands_moved : (t : Row) (n : ℕ) (cells : List ℕ) (a e : ℕ) (how : Renaming) → Stands t n cells a → e ≡ a + size t → shown cells (Moved a e how) ≡ flat (rename (renamed how) 0 0 t)
-stands_moved t n cells a e how s k = ap (λ u. flat (rename (renamed how) 0 0 u)) (stands_trees t n cells a e s k)
-
--- how many cells a piece shows
-pub shown_extent : (cells : List ℕ) (p : Piece) → Sound cells p → length (shown cells p) ≡ extent p
-shown_extent cells (Cell c) h = refl
-shown_extent cells (Copy a e) h = length-take-le (e - a) (drop a cells) (omega (arith, length-drop a cells))
-shown_extent cells (Moved a e how) h =
-    let t = h.0.tree in
-    ap length (stands_moved t 1 cells a e how h.0.stands h.0.ends) ∙ flat_size (rename (renamed how) 0 0 t) ∙ omega (arith, rename_size (renamed how) 0 0 t, h.0.ends)
-
-pub shown_extents : (cells : List ℕ) (ps : List Piece) → SoundAll cells ps → length (shown_all cells ps) ≡ extent_all ps
-shown_extents cells [] h = refl
-shown_extents cells (p ∷ ps) h =
-    omega (arith, length-append (shown cells p) (shown_all cells ps), shown_extent cells p h.0, shown_extents cells ps h.1)
-
--- a piece, then the others, written over
-pub over_all : (cells : List ℕ) (p : Piece) (ps : List Piece) (space : List ℕ) (to j : ℕ) → Sound cells p → j ≡ to + extent p → over space to (shown_all cells (p ∷ ps)) ≡ over (over space to (shown cells p)) j (shown_all cells ps)
-over_all cells p ps space to j h k =
-    over-++ space to (shown cells p) (shown_all cells ps) j (omega (arith, shown_extent cells p h))
+-- the tree that fills the cells
+pub tree_trees : {cells : List ℕ} {t : Row} → TreeOf cells t → trees cells ≡ t
+tree_trees {cells} {t} s = ap trees (sym s.reads) ∙ reads_flat t s.counted
 
 -- what is left of the pieces: the next one, and the others
-pub sound_more : (cells : List ℕ) (ps : List Piece) (i : ℕ) (d : Piece) → i < length ps → SoundAll cells (drop i ps) → Sound cells (get_or ps i d) × SoundAll cells (drop (i + 1) ps)
-sound_more cells ps i d h s = subst (SoundAll cells) (drop_more ps i d h) s
+pub shown_more : (ps : List Piece) (i : ℕ) (d : Piece) → i < length ps → shown_all (drop i ps) ≡ shown (get_or ps i d) ++ shown_all (drop (i + 1) ps)
+shown_more ps i d h = ap shown_all (drop_more ps i d h)
 
-pub extent_more : (ps : List Piece) (i : ℕ) (d : Piece) → i < length ps → extent_all (drop i ps) ≡ extent (get_or ps i d) + extent_all (drop (i + 1) ps)
-extent_more ps i d h = ap extent_all (drop_more ps i d h)
+pub length_more : (ps : List Piece) (i : ℕ) (d : Piece) → i < length ps → length (shown_all (drop i ps)) ≡ length (shown (get_or ps i d)) + length (shown_all (drop (i + 1) ps))
+length_more ps i d h = ap length (shown_more ps i d h) ∙ length-append (shown (get_or ps i d)) (shown_all (drop (i + 1) ps))
 
-pub extent_none : (ps : List Piece) (i : ℕ) → length ps ≤ i → extent_all (drop i ps) ≡ 0
-extent_none ps i h = ap extent_all (drop_all i ps h)
+pub shown_none : (ps : List Piece) (i : ℕ) → length ps ≤ i → shown_all (drop i ps) ≡ []
+shown_none ps i h = ap shown_all (drop_all i ps h)
 
--- the next piece written over, the others are left to write
-pub over_more : (cells : List ℕ) (ps : List Piece) (i : ℕ) (d : Piece) (space space' : List ℕ) (to j : ℕ) → i < length ps → Sound cells (get_or ps i d) → space' ≡ over space to (shown cells (get_or ps i d)) → j ≡ to + extent (get_or ps i d) → over space' j (shown_all cells (drop (i + 1) ps)) ≡ over space to (shown_all cells (drop i ps))
-over_more cells ps i d space space' to j h s e k =
-    ap (λ l. over l j (shown_all cells (drop (i + 1) ps))) e ∙ sym (over_all cells (get_or ps i d) (drop (i + 1) ps) space to j s k) ∙ ap (λ l. over space to (shown_all cells l)) (sym (drop_more ps i d h))
+-- the pieces before this one are written, up to here
+pub record Laid (ps : List Piece) (i to : ℕ) (space space' : List ℕ) : Type 0 where
+  pub front : List ℕ
+  pub before : front ++ shown_all (drop i ps) ≡ shown_all ps
+  pub is : Fronts front space space' to
 
-pub over_none : (cells : List ℕ) (ps : List Piece) (i : ℕ) (space : List ℕ) (to : ℕ) → length ps ≤ i → over space to (shown_all cells (drop i ps)) ≡ space
-over_none cells ps i space to h = ap (λ l. over space to (shown_all cells l)) (drop_all i ps h)
+pub laid_none : (ps : List Piece) (space : List ℕ) → Laid ps 0 0 space space
+laid_none ps space = record { front = []; before = refl; is = fronts_none space }
+
+-- a piece more
+pub laid_more : (ps : List Piece) (i to m : ℕ) (d : Piece) (space space' part : List ℕ) → Laid ps i to space space' → i < length ps → d ≡ get_or ps i d → Put (shown d) (take (length space' - to) (drop to space')) part (Some m) → Laid ps (i + 1) (to + m) space (put_mid to (length space' - to) space' part)
+laid_more ps i to m d space space' part w h e (a, b, g) =
+    record {
+      front = w.front ++ shown d;
+      before = append_assoc w.front (shown d) (shown_all (drop (i + 1) ps)) ∙ ap (λ x. w.front ++ x) (ap (λ q. shown q ++ shown_all (drop (i + 1) ps)) e ∙ sym (shown_more ps i d h)) ∙ w.before;
+      is = fronts_next w.is (record { count = a; fits = b; writes = g });
+    }
+
+-- no piece is left
+pub laid_all : (ps : List Piece) (i to : ℕ) (space space' : List ℕ) → Laid ps i to space space' → length ps ≤ i → space' ≡ shown_all ps ++ drop (length (shown_all ps)) space
+laid_all ps i to space space' w h =
+    let e : w.front ≡ shown_all ps = sym (append-nil w.front) ∙ ap (λ x. w.front ++ x) (sym (shown_none ps i h)) ∙ w.before in
+    w.is.writes ∙ ap (λ x. x ++ drop to space) e ∙ ap (λ n. shown_all ps ++ drop n space) (w.is.count ∙ ap length e)
+
+-- there is room for the next piece
+pub laid_room : (ps : List Piece) (i to : ℕ) (d : Piece) (space space' : List ℕ) → Laid ps i to space space' → i < length ps → d ≡ get_or ps i d → to + length (shown d) ≤ length (shown_all ps)
+laid_room ps i to d space space' w h e =
+    omega (arith, length-append w.front (shown_all (drop i ps)), ap length w.before, w.is.count, length_more ps i d h, ap (λ q. length (shown q)) e)
+
+-- a tree that fills the cells stands there
+pub tree_standing : {cells : List ℕ} → ∥ OneTree cells ∥₁ → ∥ Standing 1 cells 0 ∥₁
+tree_standing h = ∥∥₁_map h (λ x. (x.0, term_stands x.1))
+
+-- and it is known which
+pub the_tree : {cells : List ℕ} → ∥ OneTree cells ∥₁ → (t : Row) × Stands t 1 cells 0 × (trees cells ≡ t)
+the_tree {cells} h =
+    let s = standing (tree_standing h) in
+    let e : flat s.0 ≡ cells =
+    ∥∥₁_elim h (Prim.hlevel props) (λ x. ap flat (stands_same s.1 (term_stands x.1)) ∙ x.1.reads) in
+    (s.0, s.1, ap trees (sym e) ∙ reads_flat s.0 s.1.counted)

@@ -1,14 +1,13 @@
--- Trees that lie among cells, and their children.
-use Rattle.std.specs.Prelude.{◌≡◌, ℕ, ◌+◌, ◌<◌, List, Some, None, Option, ◌≢◌}
-use Rattle.pieces.specs.declared.span.Span.{Span}
-use Rattle.terms.specs.Rows.{Row, size, ◌&◌}
+-- A tree that fills the cells of a part, and its children.
+use Rattle.std.specs.Prelude.{◌≡◌, ℕ, ◌<◌, List, Some, None, Option, ◌≢◌}
+use Rattle.std.specs.Borrow.{Bor}
+use Rattle.terms.specs.Rows.{Row, ◌&◌}
 use Rattle.terms.specs.Rows.Row.{none, node}
-use Rattle.terms.specs.Standing.{Stands}
+use Rattle.terms.specs.Terms.{TreeOf}
 
--- The tree lies there, and fills these cells.
-pub record Lies (t : Row) (cells : List ℕ) (at : Span) : Type 0 where
-  pub stands : Stands t 1 cells at.start
-  pub ends : at.end ≡ at.start + size t
+-- some tree fills the cells
+abbrev pub OneTree : List ℕ → Type 0
+OneTree cells = (t : Row) × TreeOf cells t
 
 -- a cell that is there stands before the end
 abbrev pub Within : ℕ → ℕ → Option ℕ → Type 0
@@ -20,12 +19,12 @@ abbrev pub Topped : Row → Option ℕ → Type 0
 Topped t (Some c) = (ks : Row) × (t ≡ node c ks none)
 Topped t None = ⊥
 
--- the tree is c over one tree, and there that lies; or it is none of these
-abbrev pub Single : ℕ → Row → List ℕ → Option Span → Type 0
-Single c t cells (Some p) = (a : Row) × (t ≡ node c a none) × Lies a cells p
-Single c t cells None = (a : Row) → t ≢ node c a none
+-- the tree is c over one tree, and that fills the part; or it is none of these
+abbrev pub Single : ℕ → Row → Option (Bor (List ℕ)) → Type 0
+Single c t (Some p) = (a : Row) × (t ≡ node c a none) × TreeOf p.now a
+Single c t None = (a : Row) → t ≢ node c a none
 
 -- the same over two trees
-abbrev pub Paired : ℕ → Row → List ℕ → Option (Span × Span) → Type 0
-Paired c t cells (Some p) = (a b : Row) × (t ≡ node c (a & b) none) × Lies a cells p.0 × Lies b cells p.1
-Paired c t cells None = (a b : Row) → t ≢ node c (a & b) none
+abbrev pub Paired : ℕ → Row → Option (Bor (List ℕ) × Bor (List ℕ)) → Type 0
+Paired c t (Some p) = (a b : Row) × (t ≡ node c (a & b) none) × TreeOf p.0.now a × TreeOf p.1.now b
+Paired c t None = (a b : Row) → t ≢ node c (a & b) none

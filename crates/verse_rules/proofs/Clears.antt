@@ -1,15 +1,18 @@
 -- Where a variable lies under tuples. Assumes nothing.
-use Rattle.std.proofs.Common.{◌≡◌, ℕ, ◌+◌, Bool, true, false, not, ◌&&◌, ◌||◌, eqb, is_some, Some, None, Decides, Option, sym, refl, ap, ◌∙◌, arith}
+use Rattle.std.proofs.Common.{◌≡◌, ℕ, ◌+◌, ◌-◌, ◌≤◌, length, Bool, true, false, not, ◌&&◌, ◌||◌, eqb, is_some, Some, None, Decides, Option, sym, refl, ap, ◌∙◌, arith}
 use mathlib.Core.Bool.{false≢true}
 use Rattle.std.proofs.lemmas.Bool.{eq-eqb, ne_eqb, eqb-true}
-use Rattle.terms.specs.Cells.{kind, cell}
-use Rattle.terms.specs.Rows.{Row, size, var}
+use Rattle.moves.proofs.Scopes.{part_are}
+use Rattle.terms.specs.Cells.{kind, children, cell}
+use Rattle.terms.specs.Forest.{Are, Headed}
+use Rattle.terms.specs.Standing.{Stands}
+use Rattle.terms.specs.declared.forest.Trees.{Trees}
+use Rattle.terms.specs.Rows.{Row, size}
 use Rattle.terms.specs.Rows.Row.{node}
-use Rattle.terms.proofs.Inject.{top}
+use Rattle.terms.proofs.Steps.{opened, moved}
 use Rattle.verse.specs.Syntax.{Val}
 use Rattle.verse.specs.Contexts.{lies}
-use Rattle.verse.specs.Contexts.V.{▢, among}
-use Rattle.verse.specs.Lines.{Word, Holds, Deep}
+use Rattle.verse.specs.Lines.{Word, Holds}
 use Rattle.verse.proofs.Occurs.{occurrence}
 use Rattle.verse_rules.specs.Tests.{Clear}
 
@@ -42,21 +45,32 @@ pub clear_beyond : (x at next c : ℕ) (t ks r : Row) → t ≡ node c ks r → 
 clear_beyond x at next c t ks r e n m k (Some z) h = let s = ap size e in (lies_beyond x c t ks r e n m ∙ h.0, omega (arith, h.1, s, k))
 clear_beyond x at next c t ks r e n m k None h = lies_beyond x c t ks r e n m ∙ h
 
+-- the first of some trees with its children, and the others
+pub record Cut (trees : Trees) (c : ℕ) (below : Trees) (t : Row) : Type 0 where
+  pub ks : Row
+  pub r : Row
+  pub is : t ≡ node c ks r
+  pub within : trees.at + 1 + size ks ≤ length trees.cells.now
+  pub inner : Are below ks
+  pub starts : below.at ≡ trees.at + 1
+  pub others : Stands r (trees.n - 1) trees.cells.now (trees.at + 1 + size ks)
+
+pub cut : {trees below : Trees} {c : ℕ} {t : Row} → Headed trees (Some (c, below)) → Are trees t → Cut trees c below t
+cut {trees} {below} {c} {t} (some, e, part) s =
+    let o = opened t s (λ z. omega (arith, some, z)) in
+    record {
+      ks = o.ks;
+      r = o.r;
+      is = o.is ∙ ap (λ d. node d o.ks o.r) (sym e);
+      within = omega (arith, o.within, o.sized);
+      inner = part_are part (moved o.first (ap children e) refl);
+      starts = part.start;
+      others = o.others;
+    }
+
 -- the test of a value
 pub held : (x at : ℕ) (v : Row) (o : Option ℕ) (r : Bool) → Word x → Val v → Clear x v at o → is_some o ≡ not r → Decides r (Holds x v)
 held x at v (Some e) true z h k i = absurd (false≢true (sym i))
 held x at v (Some e) false z h k i = (λ b. absurd (false≢true b), λ w. sym k.0 ∙ (occurrence x v z h).0.0 w)
 held x at v None true z h k i = (λ b. (occurrence x v z h).0.1 k, λ w. refl)
 held x at v None false z h k i = absurd (false≢true i)
-
--- V ≠ □
-pub no_deep : (x : ℕ) (v : Row) → Word x → v ≡ var x → Deep x v → ⊥
-no_deep x v z e (▢, n, i) = n
-no_deep x v z e (among b W a, n, i) = let q = ap top (sym e ∙ i) in omega (arith, z, q)
-
-pub deep_held : (x : ℕ) (v : Row) (r : Bool) → (v ≡ var x → ⊥) → Decides r (Holds x v) → Decides r (Deep x v)
-deep_held x v r n d = (λ k. go (d.0 k), λ w. d.1 (w.0, w.2))
-  where
-    go : Holds x v → Deep x v
-    go (▢, e) = absurd (n e)
-    go (among b W a, e) = (among b W a, tt, e)

@@ -1,7 +1,6 @@
 -- Two heads that can never be equal. Assumes nothing.
 use Rattle.std.proofs.Common.{◌≡◌, ℕ, zero, suc, List, sym, refl, ap, ◌∙◌, subst, arith}
 use Rattle.calculus.specs.Line.{Gives}
-use Rattle.pieces.specs.declared.span.Span.{Span}
 use Rattle.terms.specs.Cells.{kind, children, payload, cell}
 use Rattle.terms.specs.Rows.{Row, width, kind_of}
 use Rattle.terms.specs.Rows.Row.{none, node}
@@ -15,7 +14,7 @@ use Rattle.verse_rules.specs.Tests.{Apart}
 use Rattle.verse_rules.proofs.Ranges.{tree_head, integer_tree, tuple_tree}
 use Rattle.verse_rules.proofs.Sames.{same_three, two_leaves}
 
-module _ (inner : List ℕ) (t a b e ks js : Row) (c d : ℕ) (cells : List ℕ) (at bt et : Span) (is : t ≡ seq (eqn a b) e) (ra : Reads hnf a cells at) (rb : Reads hnf b cells bt) (re : Reads exp e cells et) (ta : a ≡ node c ks none) (tb : b ≡ node d js none) where
+module _ (inner : List ℕ) (t a b e ks js : Row) (c d : ℕ) (at bt et : List ℕ) (is : t ≡ seq (eqn a b) e) (ra : Reads hnf a at) (rb : Reads hnf b bt) (re : Reads exp e et) (ta : a ≡ node c ks none) (tb : b ≡ node d js none) where
   ha : Hnf (node c ks none)
   ha = subst Hnf ta ra.lawful
 

@@ -1,9 +1,9 @@
-pub mod Counts
 pub mod Ranges
 pub mod Lawfuls
 pub mod Makes
 pub mod Sames
 pub mod Signs
 pub mod Clears
+pub mod Earlies
 pub mod Fails
 pub mod Lates

@@ -1,62 +1,30 @@
 -- The kinds of the cells that a sort admits: values up to 4, of which 0 are the variables. Assumes nothing.
-use Rattle.std.proofs.Common.{◌≡◌, ℕ, ◌≤◌, Bool, true, false, ◌&&◌, ◌||◌, leb, [], ◌∷◌, replicate, sym, refl, ap, ◌∙◌, subst, arith}
+use Rattle.std.proofs.Common.{◌≡◌, ℕ, ◌≤◌, true, [], ◌∷◌, replicate, sym, refl, ap, ◌∙◌, subst, arith}
 use lib.ListN.{length-replicate}
 use Rattle.std.proofs.lemmas.Bool.Decides.{nat_tests}
-use Rattle.terms.specs.Cells.{kind, children, payload, cell, form}
+use Rattle.terms.specs.Cells.{kind, children, payload, cell}
 use Rattle.terms.specs.Rows.{Row, width, var}
 use Rattle.terms.specs.Rows.Row.{none, node}
 use Rattle.terms.proofs.Inject.{lawful_width}
-use Rattle.verse.specs.Syntax.{Sort, plain, head_cell, value_cell, expression_cell, admits, kids, children_of, int, tuple, Lawful, Val, Vals, Hnf}
+use Rattle.verse.specs.Syntax.{Sort, head_cell, value_cell, admits, kids, children_of, int, tuple, Lawful, Val, Vals, Hnf}
 use Rattle.verse.specs.Syntax.Sort.{val, hnf, exp, equ}
-use Rattle.verse_rules.proofs.Counts.{by_or, and_left}
-
-form_kind : (k b n c : ℕ) → form k b n c ≡ true → kind c ≡ k
-form_kind k b n c h = grind (arith, nat_tests)
-
-plain_kind : (k b n c : ℕ) → plain k b n c ≡ true → kind c ≡ k
-plain_kind k b n c h = form_kind k b n c (and_left (form k b n c) _ h)
 
 pub head_range : (c : ℕ) → head_cell c ≡ true → (1 ≤ kind c) × (kind c ≤ 4)
-head_range c h =
-    by_or (form 1 0 0 c) _ (λ x. let k = form_kind 1 0 0 c x in (omega (arith, k), omega (arith, k)))
-    (by_or (form 2 0 0 c && leb (payload c) 1) _ (λ x. let k = form_kind 2 0 0 c (and_left (form 2 0 0 c) _ x) in (omega (arith, k), omega (arith, k)))
-    (by_or (plain 3 0 (children c) c && leb (children c) 255) _ (λ x. let k = plain_kind 3 0 (children c) c (and_left (plain 3 0 (children c) c) _ x) in (omega (arith, k), omega (arith, k)))
-    (λ x. let k = plain_kind 4 1 1 c x in (omega (arith, k), omega (arith, k))))) h
+head_range c h = (grind (arith, nat_tests), grind (arith, nat_tests))
 
 pub value_range : (c : ℕ) → value_cell c ≡ true → kind c ≤ 4
-value_range c h = by_or (form 0 0 0 c) (head_cell c) (λ x. let k = form_kind 0 0 0 c x in omega (arith, k)) (λ x. (head_range c x).1) h
+value_range c h = grind (arith, nat_tests)
 
--- the cells that no value has
-or_late : (k b n c : ℕ) → 5 ≤ k → (more : Bool) → (more ≡ true → 5 ≤ kind c) → plain k b n c || more ≡ true → 5 ≤ kind c
-or_late k b n c l more f h = by_or (plain k b n c) more (λ x. let e = plain_kind k b n c x in omega (arith, e, l)) f h
-
-low_value : (c : ℕ) → expression_cell c ≡ true → kind c ≤ 4 → value_cell c ≡ true
-low_value c h l =
-    by_or (value_cell c) _ (λ x. x)
-    (λ x. absurd (let e = (
-    or_late 5 0 2 c (omega arith) _
-    (or_late 6 0 2 c (omega arith) _
-    (or_late 8 1 1 c (omega arith) _
-    (or_late 9 0 0 c (omega arith) _
-    (or_late 10 0 2 c (omega arith) _
-    (or_late 11 0 1 c (omega arith) _
-    (λ y. let e = plain_kind 12 0 1 c y in omega (arith, e))))))) x
-    ) in omega (arith, e, l))) h
-
+-- the cells that a value has
 pub low_admits : (s : Sort) (c : ℕ) → admits s c ≡ true → kind c ≤ 4 → value_cell c ≡ true
 unfolding admits
 low_admits val c h l = h
-low_admits hnf c h l = go (form 0 0 0 c) (head_cell c) h
-  where
-    go : (a b : Bool) → b ≡ true → a || b ≡ true
-    go true b h = refl
-    go false b h = h
-low_admits exp c h l = low_value c h l
-low_admits equ c h l =
-    by_or (expression_cell c) (plain 7 0 2 c) (λ x. low_value c x l) (λ x. absurd (let e = plain_kind 7 0 2 c x in omega (arith, e, l))) h
+low_admits hnf c h l = grind (arith, nat_tests)
+low_admits exp c h l = grind (arith, nat_tests)
+low_admits equ c h l = grind (arith, nat_tests)
 
 pub low_head : (c : ℕ) → value_cell c ≡ true → 1 ≤ kind c → head_cell c ≡ true
-low_head c h l = by_or (form 0 0 0 c) (head_cell c) (λ x. absurd (let e = form_kind 0 0 0 c x in omega (arith, e, l))) (λ x. x) h
+low_head c h l = grind (arith, nat_tests)
 
 -- a lawful tree that begins with such a cell
 pub value_tree : (s : Sort) (c : ℕ) (ks : Row) → Lawful (s ∷ []) (node c ks none) → kind c ≤ 4 → Val (node c ks none)

@@ -4,8 +4,7 @@ use Rattle.terms.specs.Cells.{cell}
 use Rattle.terms.specs.Rows.{Row, flat, width, ◌&◌, var}
 use Rattle.terms.specs.Rows.Row.{none, node}
 use Rattle.terms.proofs.Inject.{under}
-use Rattle.pieces.specs.declared.span.Span.{Span}
-use Rattle.pieces.specs.Parts.{Lies}
+use Rattle.terms.specs.Terms.{TreeOf}
 use Rattle.verse.specs.Syntax.{Sort, seq, eqn, exists, tuple}
 use Rattle.verse_rules.specs.Reads.{Reads}
 use Rattle.verse.proofs.Unique.{two}
@@ -14,19 +13,19 @@ use Rattle.verse.proofs.Unique.{two}
 pub same_one : {t a p : Row} {c : ℕ} → t ≡ node c a none → t ≡ node c p none → a ≡ p
 same_one e f = ap under (sym e ∙ f)
 
-pub same_two : {t a b : Row} {c : ℕ} {s : Sort} {cells : List ℕ} {at : Span} (p q : Row) → t ≡ node c (a & b) none → Reads s a cells at → t ≡ node c (p & q) none → width p ≡ 1 → (a ≡ p) × (b ≡ q)
-same_two {t} {a} {b} {c} p q e h f k = two c c a b p q (h.lies.stands.wide ∙ sym k) (sym e ∙ f)
+pub same_two : {t a b : Row} {c : ℕ} {s : Sort} {part : List ℕ} (p q : Row) → t ≡ node c (a & b) none → Reads s a part → t ≡ node c (p & q) none → width p ≡ 1 → (a ≡ p) × (b ≡ q)
+same_two {t} {a} {b} {c} p q e h f k = two c c a b p q (h.is.one ∙ sym k) (sym e ∙ f)
 
 -- v = b; e
-pub same_three : {t a b e : Row} {s : Sort} {cells : List ℕ} {at : Span} (p q f : Row) → t ≡ seq (eqn a b) e → Reads s a cells at → t ≡ seq (eqn p q) f → width p ≡ 1 → (a ≡ p) × (b ≡ q) × (e ≡ f)
+pub same_three : {t a b e : Row} {s : Sort} {part : List ℕ} (p q f : Row) → t ≡ seq (eqn a b) e → Reads s a part → t ≡ seq (eqn p q) f → width p ≡ 1 → (a ≡ p) × (b ≡ q) × (e ≡ f)
 same_three {t} {a} {b} {e} p q f x h y k =
     let m = two _ _ (eqn a b) e (eqn p q) f refl (sym x ∙ y) in
-    let n = two _ _ a b p q (h.lies.stands.wide ∙ sym k) m.0 in
+    let n = two _ _ a b p q (h.is.one ∙ sym k) m.0 in
     (n.0, n.1, m.1)
 
 -- a tuple of one tree
-pub flat_single : {v : Row} {cells : List ℕ} {at : Span} → Lies v cells at → cell 3 0 1 0 ∷ (flat v ++ []) ≡ flat (tuple v)
-flat_single {v} l = ap (λ n. cell 3 0 n 0 ∷ (flat v ++ [])) (sym l.stands.wide)
+pub flat_single : {v : Row} {part : List ℕ} → TreeOf part v → cell 3 0 1 0 ∷ (flat v ++ []) ≡ flat (tuple v)
+flat_single {v} l = ap (λ n. cell 3 0 n 0 ∷ (flat v ++ [])) (sym l.one)
 
 -- the two sides of v = b; e told
 pub two_leaves : {a b p q : Row} (e : Row) → a ≡ p → b ≡ q → seq (eqn a b) e ≡ seq (eqn p q) e

@@ -1,78 +1,72 @@
 // Application.
-ghost use Rattle.std.specs.Prelude.{◌≡◌, ℕ, List};
-ghost use Rattle.terms.specs.Rows.{Row, flat};
-ghost use Rattle.calculus.specs.Written.{Written};
-ghost use Rattle.verse.specs.Syntax.{Term};
 ghost use Rattle.verse.specs.Lines.{app_add, app_gt, app_gt_fail, app_beta, app_tup_0};
+ghost use Rattle.verse_rules.specs.Rewrites.{Rewrites};
 
-use crate::cells::{ADD, EQUATION, EXISTS, FAIL, GT, INTEGER, SEQUENCE, TUPLE, VARIABLE};
-use crate::forms::{abstraction, application, exactly, operands, whole};
+use crate::cells::{ADD, EQUATION, EXISTS, FAIL, GT, SEQUENCE, TUPLE, integer_cell, variable_cell};
+use crate::forms::{abstraction, application, exactly, operands};
 use crate::give::give;
+use crate::redex::Redex;
 use crate::signed::{exceeds, sum};
 use calculus::no::No;
 use moves::renaming::Renaming;
-use pieces::piece::Piece;
+use pieces::piece::{Moved, Piece};
 
 // APP-ADD: add⟨k1, k2⟩ gives k1 + k2.
-pub fn app_add(redex: &[u64], space: &mut [u64]) -> Result<usize, No>
-    requires { (t : Row) × Term t × (flat t ≡ redex.now) }
-    ensures { (t : Row) (inner : List ℕ) → Term t → flat t ≡ redex.now → Written (app_add inner t) space.old space.new result }
+pub fn app_add(redex: Redex, space: &mut [u64]) -> Result<usize, No>
+    ensures { Rewrites app_add redex.entry space.old space.new result }
 {
-    let (m, n) = operands(redex, ADD)?;
-    let Some(k) = sum(m, n) else {
-        return Err(No::Oversum);
-    };
-    give(redex, &[Piece::Cell(INTEGER + k as u64)], space)
+    let (m, n) = operands(redex.cells, ADD)?;
+    let k = sum(m, n).ok_or(No::Oversum)?;
+    give(&[Piece::Cell(integer_cell(k))], space)
 }
 
 // APP-GT: gt⟨k1, k2⟩ gives k1, if k1 > k2.
-pub fn app_gt(redex: &[u64], space: &mut [u64]) -> Result<usize, No>
-    requires { (t : Row) × Term t × (flat t ≡ redex.now) }
-    ensures { (t : Row) (inner : List ℕ) → Term t → flat t ≡ redex.now → Written (app_gt inner t) space.old space.new result }
+pub fn app_gt(redex: Redex, space: &mut [u64]) -> Result<usize, No>
+    ensures { Rewrites app_gt redex.entry space.old space.new result }
 {
-    let (m, n) = operands(redex, GT)?;
+    let (m, n) = operands(redex.cells, GT)?;
     if !exceeds(m, n) {
         return Err(No::Barred);
     }
-    give(redex, &[Piece::Cell(INTEGER + m as u64)], space)
+    give(&[Piece::Cell(integer_cell(m))], space)
 }
 
 // APP-GT-FAIL: gt⟨k1, k2⟩ gives fail, if k1 ≤ k2.
-pub fn app_gt_fail(redex: &[u64], space: &mut [u64]) -> Result<usize, No>
-    requires { (t : Row) × Term t × (flat t ≡ redex.now) }
-    ensures { (t : Row) (inner : List ℕ) → Term t → flat t ≡ redex.now → Written (app_gt_fail inner t) space.old space.new result }
+pub fn app_gt_fail(redex: Redex, space: &mut [u64]) -> Result<usize, No>
+    ensures { Rewrites app_gt_fail redex.entry space.old space.new result }
 {
-    let (m, n) = operands(redex, GT)?;
+    let (m, n) = operands(redex.cells, GT)?;
     if exceeds(m, n) {
         return Err(No::Barred);
     }
-    give(redex, &[Piece::Cell(FAIL)], space)
+    give(&[Piece::Cell(FAIL)], space)
 }
 
 // APP-BETA: (λx. e)(v) gives ∃x. x = v; e.
-pub fn app_beta(redex: &[u64], space: &mut [u64]) -> Result<usize, No>
-    requires { (t : Row) × Term t × (flat t ≡ redex.now) }
-    ensures { (t : Row) (inner : List ℕ) → Term t → flat t ≡ redex.now → Written (app_beta inner t) space.old space.new result }
+pub fn app_beta(redex: Redex, space: &mut [u64]) -> Result<usize, No>
+    ensures { Rewrites app_beta redex.entry space.old space.new result }
 {
-    let (f, v) = application(redex, whole(redex))?;
-    let e = abstraction(redex, f)?;
+    let (f, v) = application(redex.cells)?;
+    let e = abstraction(f)?;
     let parts = [
         Piece::Cell(EXISTS),
         Piece::Cell(SEQUENCE),
         Piece::Cell(EQUATION),
-        Piece::Cell(VARIABLE),
-        v.moved(Renaming::Raise(1)),
-        e.copy(),
+        Piece::Cell(variable_cell(0)),
+        Piece::Moved(Moved {
+            cells: v,
+            how: Renaming::Raise(1),
+        }),
+        Piece::Copy(e),
     ];
-    give(redex, &parts, space)
+    give(&parts, space)
 }
 
 // APP-TUP-0: ⟨⟩(v) gives fail.
-pub fn app_tup_0(redex: &[u64], space: &mut [u64]) -> Result<usize, No>
-    requires { (t : Row) × Term t × (flat t ≡ redex.now) }
-    ensures { (t : Row) (inner : List ℕ) → Term t → flat t ≡ redex.now → Written (app_tup_0 inner t) space.old space.new result }
+pub fn app_tup_0(redex: Redex, space: &mut [u64]) -> Result<usize, No>
+    ensures { Rewrites app_tup_0 redex.entry space.old space.new result }
 {
-    let (f, _) = application(redex, whole(redex))?;
-    exactly(redex, f, TUPLE)?;
-    give(redex, &[Piece::Cell(FAIL)], space)
+    let (f, _) = application(redex.cells)?;
+    exactly(f, TUPLE)?;
+    give(&[Piece::Cell(FAIL)], space)
 }

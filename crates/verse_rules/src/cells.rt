@@ -1,7 +1,8 @@
-// The cells of the forms. An integer or a variable adds its payload, and a tuple the count of its elements.
-pub const VARIABLE: u64 = 0;
+// The cells of the forms. A tuple adds the count of its elements.
+ghost use Rattle.std.specs.Prelude.{◌≡◌};
+ghost use Rattle.terms.specs.Cells.{cell};
 
-pub const INTEGER: u64 = 0x0400_0000_0000_0000;
+const INTEGER: u64 = 0x0400_0000_0000_0000;
 
 pub const ADD: u64 = 0x0800_0000_0000_0000;
 
@@ -31,3 +32,17 @@ pub const CHOICE: u64 = 0x2802_0000_0000_0000;
 pub const ONE: u64 = 0x2c01_0000_0000_0000;
 
 pub const ALL: u64 = 0x3001_0000_0000_0000;
+
+// The cell of a variable.
+pub fn variable_cell(x: u32) -> u64
+    ensures { result ≡ cell 0 0 0 x }
+{
+    x as u64
+}
+
+// The cell of an integer, by its payload.
+pub fn integer_cell(k: u32) -> u64
+    ensures { result ≡ cell 1 0 0 k }
+{
+    INTEGER + k as u64
+}

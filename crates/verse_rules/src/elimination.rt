@@ -1,34 +1,43 @@
 // Elimination.
-ghost use Rattle.std.specs.Prelude.{◌≡◌, ℕ, List};
-ghost use Rattle.terms.specs.Rows.{Row, flat};
-ghost use Rattle.calculus.specs.Written.{Written};
-ghost use Rattle.verse.specs.Syntax.{Term};
 ghost use Rattle.verse.specs.Lines.{val_elim, exi_elim};
+ghost use Rattle.verse_rules.specs.Rewrites.{Rewrites};
 
-use crate::forms::{existential, sequence, value, whole};
+use crate::forms::{existential, sequence, value};
 use crate::give::give;
+use crate::redex::Redex;
 use calculus::no::No;
-use moves::occurs::occurs_row;
+use moves::occurs::occurs;
 use moves::renaming::Renaming;
+use pieces::piece::{Moved, Piece};
+use terms::forest::Trees;
 
 // VAL-ELIM: v; e gives e.
-pub fn val_elim(redex: &[u64], space: &mut [u64]) -> Result<usize, No>
-    requires { (t : Row) × Term t × (flat t ≡ redex.now) }
-    ensures { (t : Row) (inner : List ℕ) → Term t → flat t ≡ redex.now → Written (val_elim inner t) space.old space.new result }
+pub fn val_elim(redex: Redex, space: &mut [u64]) -> Result<usize, No>
+    ensures { Rewrites val_elim redex.entry space.old space.new result }
 {
-    let (v, e) = sequence(redex, whole(redex))?;
-    value(redex, v)?;
-    give(redex, &[e.copy()], space)
+    let (v, e) = sequence(redex.cells)?;
+    value(v)?;
+    give(&[Piece::Copy(e)], space)
 }
 
 // EXI-ELIM: ∃x. e gives e, if x is not free in e.
-pub fn exi_elim(redex: &[u64], space: &mut [u64]) -> Result<usize, No>
-    requires { (t : Row) × Term t × (flat t ≡ redex.now) }
-    ensures { (t : Row) (inner : List ℕ) → Term t → flat t ≡ redex.now → Written (exi_elim inner t) space.old space.new result }
+pub fn exi_elim(redex: Redex, space: &mut [u64]) -> Result<usize, No>
+    ensures { Rewrites exi_elim redex.entry space.old space.new result }
 {
-    let e = existential(redex, whole(redex))?;
-    match occurs_row(redex, e.start, 1, 0, 0, 0) {
+    let e = existential(redex.cells)?;
+    let body = Trees {
+        cells: e,
+        at: 0,
+        n: 1,
+    };
+    match occurs(body, 0) {
         Some(_) => Err(No::Barred),
-        None => give(redex, &[e.moved(Renaming::Lower)], space),
+        None => give(
+            &[Piece::Moved(Moved {
+                cells: e,
+                how: Renaming::Lower,
+            })],
+            space,
+        ),
     }
 }

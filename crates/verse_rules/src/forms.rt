@@ -1,141 +1,126 @@
-// The forms of a redex and its parts: a reader for each, which answers where the parts lie.
+// The forms of a redex and its parts: a reader for each, which answers the parts.
 ghost use Rattle.std.specs.Prelude.{◌≡◌};
 ghost use Rattle.terms.specs.Cells.{children};
 ghost use Rattle.terms.specs.Rows.{Row, flat, var};
 ghost use Rattle.verse.specs.Syntax.{Sort, Term, seq, app, lambda, choice, exists, one, all, int};
 ghost use Rattle.verse.specs.Syntax.Sort.{val, exp, equ};
-ghost use Rattle.verse_rules.specs.Reads.{Reads, Two, Sole, Three, Leaf, Valued, Headed, Exactly, Operands, Bound, both};
+ghost use Rattle.verse.specs.Kind.{number_of};
+ghost use Rattle.verse_rules.specs.Reads.{Reads, Two, Sole, Three, Leaf, LeafOf, Valued, Headed, Exactly, Operands, Bound, both};
 
 use crate::cells::{ALL, APPLICATION, CHOICE, EQUATION, EXISTS, LAMBDA, ONE, PAIR, SEQUENCE};
 use calculus::no::No;
-use pieces::span::Span;
+use pieces::parts::{is, only, top, two};
 use terms::cell::{kind, payload};
-
-// All of the cells.
-pub fn whole(cells: &[u64]) -> Span
-    ensures { (t : Row) → Term t → flat t ≡ cells.now → Reads exp t cells.now result }
-{
-    Span::whole(cells)
-}
+use verse::kind::Kind;
 
 // v1 v2
-pub fn application(cells: &[u64], at: Span) -> Result<(Span, Span), No>
-    ensures { (s : Sort) (t : Row) → Reads s t cells.now at → Two app val val t cells.now result }
+pub fn application(part: &[u64]) -> Result<(&[u64], &[u64]), No>
+    ensures { (s : Sort) (t : Row) → Reads s t part.now → Two app val val t result }
 {
-    at.two(cells, APPLICATION).ok_or(No::Formless)
+    two(part, APPLICATION).ok_or(No::Formless)
 }
 
 // λx. e
-pub fn abstraction(cells: &[u64], at: Span) -> Result<Span, No>
-    ensures { (s : Sort) (t : Row) → Reads s t cells.now at → Sole lambda exp t cells.now result }
+pub fn abstraction(part: &[u64]) -> Result<&[u64], No>
+    ensures { (s : Sort) (t : Row) → Reads s t part.now → Sole lambda exp t result }
 {
-    at.only(cells, LAMBDA).ok_or(No::Formless)
+    only(part, LAMBDA).ok_or(No::Formless)
 }
 
 // q; e
-pub fn sequence(cells: &[u64], at: Span) -> Result<(Span, Span), No>
-    ensures { (s : Sort) (t : Row) → Reads s t cells.now at → Two seq equ exp t cells.now result }
+pub fn sequence(part: &[u64]) -> Result<(&[u64], &[u64]), No>
+    ensures { (s : Sort) (t : Row) → Reads s t part.now → Two seq equ exp t result }
 {
-    at.two(cells, SEQUENCE).ok_or(No::Formless)
+    two(part, SEQUENCE).ok_or(No::Formless)
 }
 
 // v = b; e
-pub fn equation(cells: &[u64], at: Span) -> Result<(Span, Span, Span), No>
-    ensures { (s : Sort) (t : Row) → Reads s t cells.now at → Three t cells.now result }
+pub fn equation(part: &[u64]) -> Result<(&[u64], &[u64], &[u64]), No>
+    ensures { (s : Sort) (t : Row) → Reads s t part.now → Three t result }
 {
-    let (q, e) = sequence(cells, at)?;
-    match q.two(cells, EQUATION) {
-        Some((a, b)) => Ok((a, b, e)),
-        None => Err(No::Formless),
-    }
+    let (q, e) = sequence(part)?;
+    let (a, b) = two(q, EQUATION).ok_or(No::Formless)?;
+    Ok((a, b, e))
 }
 
 // ∃x. e
-pub fn existential(cells: &[u64], at: Span) -> Result<Span, No>
-    ensures { (s : Sort) (t : Row) → Reads s t cells.now at → Sole exists exp t cells.now result }
+pub fn existential(part: &[u64]) -> Result<&[u64], No>
+    ensures { (s : Sort) (t : Row) → Reads s t part.now → Sole exists exp t result }
 {
-    at.only(cells, EXISTS).ok_or(No::Formless)
+    only(part, EXISTS).ok_or(No::Formless)
 }
 
 // e1 | e2
-pub fn alternatives(cells: &[u64], at: Span) -> Result<(Span, Span), No>
-    ensures { (s : Sort) (t : Row) → Reads s t cells.now at → Two choice exp exp t cells.now result }
+pub fn alternatives(part: &[u64]) -> Result<(&[u64], &[u64]), No>
+    ensures { (s : Sort) (t : Row) → Reads s t part.now → Two choice exp exp t result }
 {
-    at.two(cells, CHOICE).ok_or(No::Formless)
+    two(part, CHOICE).ok_or(No::Formless)
 }
 
 // one{e}
-pub fn one_of(cells: &[u64], at: Span) -> Result<Span, No>
-    ensures { (s : Sort) (t : Row) → Reads s t cells.now at → Sole one exp t cells.now result }
+pub fn one_of(part: &[u64]) -> Result<&[u64], No>
+    ensures { (s : Sort) (t : Row) → Reads s t part.now → Sole one exp t result }
 {
-    at.only(cells, ONE).ok_or(No::Formless)
+    only(part, ONE).ok_or(No::Formless)
 }
 
 // all{e}
-pub fn all_of(cells: &[u64], at: Span) -> Result<Span, No>
-    ensures { (s : Sort) (t : Row) → Reads s t cells.now at → Sole all exp t cells.now result }
+pub fn all_of(part: &[u64]) -> Result<&[u64], No>
+    ensures { (s : Sort) (t : Row) → Reads s t part.now → Sole all exp t result }
 {
-    at.only(cells, ALL).ok_or(No::Formless)
+    only(part, ALL).ok_or(No::Formless)
 }
 
 // The part is a value.
-pub fn value(cells: &[u64], at: Span) -> Result<(), No>
-    ensures { (s : Sort) (t : Row) → Reads s t cells.now at → Valued at t cells.now result }
+pub fn value(part: &[u64]) -> Result<(), No>
+    ensures { (s : Sort) (t : Row) → Reads s t part.now → Valued part.now t result }
 {
-    let Some(c) = at.top(cells) else {
-        return Err(No::Formless);
-    };
-    if kind(c) > 4 {
-        return Err(No::Formless);
+    match top(part) {
+        Some(c) if kind(c) <= Kind::Lambda as u8 => Ok(()),
+        _ => Err(No::Formless),
     }
-    Ok(())
 }
 
 // The cell of a value that is no variable.
-pub fn head(cells: &[u64], at: Span) -> Result<u64, No>
-    ensures { (s : Sort) (t : Row) → Reads s t cells.now at → Headed at t cells.now result }
+pub fn head(part: &[u64]) -> Result<u64, No>
+    ensures { (s : Sort) (t : Row) → Reads s t part.now → Headed part.now t result }
 {
-    let Some(c) = at.top(cells) else {
-        return Err(No::Formless);
-    };
-    if kind(c) == 0 {
-        return Err(No::Formless);
+    value(part)?;
+    match top(part) {
+        Some(c) if kind(c) != Kind::Variable as u8 => Ok(c),
+        _ => Err(No::Formless),
     }
-    value(cells, at)?;
-    Ok(c)
+}
+
+// The payload of the part's cell, if that has the kind.
+fn leaf(part: &[u64], of: Kind) -> Result<u32, No>
+    ensures { (s : Sort) (t : Row) → Reads s t part.now → LeafOf (number_of of) t result }
+{
+    match top(part) {
+        Some(c) if kind(c) == of as u8 => Ok(payload(c)),
+        _ => Err(No::Formless),
+    }
 }
 
 // The payload of a variable.
-pub fn variable(cells: &[u64], at: Span) -> Result<u32, No>
-    ensures { (s : Sort) (t : Row) → Reads s t cells.now at → Leaf var t result }
+pub fn variable(part: &[u64]) -> Result<u32, No>
+    ensures { (s : Sort) (t : Row) → Reads s t part.now → Leaf var t result }
 {
-    let Some(c) = at.top(cells) else {
-        return Err(No::Formless);
-    };
-    if kind(c) != 0 {
-        return Err(No::Formless);
-    }
-    Ok(payload(c))
+    leaf(part, Kind::Variable)
 }
 
 // The payload of an integer.
-pub fn integer(cells: &[u64], at: Span) -> Result<u32, No>
-    ensures { (s : Sort) (t : Row) → Reads s t cells.now at → Leaf int t result }
+pub fn integer(part: &[u64]) -> Result<u32, No>
+    ensures { (s : Sort) (t : Row) → Reads s t part.now → Leaf int t result }
 {
-    let Some(c) = at.top(cells) else {
-        return Err(No::Formless);
-    };
-    if kind(c) != 1 {
-        return Err(No::Formless);
-    }
-    Ok(payload(c))
+    leaf(part, Kind::Integer)
 }
 
 // ⟨v1, v2⟩
-pub fn pair(cells: &[u64], at: Span) -> Result<(Span, Span), No>
-    ensures { (s : Sort) (t : Row) → Reads s t cells.now at → Two both val val t cells.now result }
+pub fn pair(part: &[u64]) -> Result<(&[u64], &[u64]), No>
+    ensures { (s : Sort) (t : Row) → Reads s t part.now → Two both val val t result }
 {
-    at.two(cells, PAIR).ok_or(No::Formless)
+    two(part, PAIR).ok_or(No::Formless)
 }
 
 // op⟨k1, k2⟩: the payloads of the integers, by the cell of the operator.
@@ -143,30 +128,30 @@ pub fn operands(cells: &[u64], operator: u64) -> Result<(u32, u32), No>
     requires { children operator ≡ 0 }
     ensures { (t : Row) → Term t → flat t ≡ cells.now → Operands operator t result }
 {
-    let (f, v) = application(cells, whole(cells))?;
-    exactly(cells, f, operator)?;
-    let (a, b) = pair(cells, v)?;
-    let m = integer(cells, a)?;
-    let n = integer(cells, b)?;
+    let (f, v) = application(cells)?;
+    exactly(f, operator)?;
+    let (a, b) = pair(v)?;
+    let m = integer(a)?;
+    let n = integer(b)?;
     Ok((m, n))
 }
 
-// x = v; e: the payload of x, and where v and e lie.
-pub fn binding(cells: &[u64], at: Span) -> Result<(u32, Span, Span), No>
-    ensures { (s : Sort) (t : Row) → Reads s t cells.now at → Bound t cells.now result }
+// x = v; e: the payload of x, and v and e.
+pub fn binding(part: &[u64]) -> Result<(u32, &[u64], &[u64]), No>
+    ensures { (s : Sort) (t : Row) → Reads s t part.now → Bound t result }
 {
-    let (a, v, e) = equation(cells, at)?;
-    let x = variable(cells, a)?;
-    value(cells, v)?;
+    let (a, v, e) = equation(part)?;
+    let x = variable(a)?;
+    value(v)?;
     Ok((x, v, e))
 }
 
 // The part is that cell alone.
-pub fn exactly(cells: &[u64], at: Span, cell: u64) -> Result<(), No>
+pub fn exactly(part: &[u64], cell: u64) -> Result<(), No>
     requires { children cell ≡ 0 }
-    ensures { (s : Sort) (t : Row) → Reads s t cells.now at → Exactly cell t result }
+    ensures { (s : Sort) (t : Row) → Reads s t part.now → Exactly cell t result }
 {
-    if at.is(cells, cell) {
+    if is(part, cell) {
         Ok(())
     } else {
         Err(No::Formless)

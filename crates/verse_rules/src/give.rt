@@ -6,10 +6,9 @@ use calculus::no::No;
 use pieces::piece::Piece;
 use pieces::write;
 
-// Writes the tree that the pieces of the redex make at the front of the space. Answers its count.
-pub fn give(redex: &[u64], pieces: &[Piece], space: &mut [u64]) -> Result<usize, No>
-    requires { (u : Row) × Made redex.now pieces.now u }
-    ensures { (u : Row) → Made redex.now pieces.now u → Given u space.old space.new result }
+// Writes the tree that the pieces make at the front of the space. Answers its count.
+pub fn give(pieces: &[Piece], space: &mut [u64]) -> Result<usize, No>
+    ensures { (u : Row) → Made pieces.now u → Given u space.old space.new result }
 {
-    write(redex, pieces, space).ok_or(No::Overlong)
+    write(pieces, space).ok_or(No::Overlong)
 }

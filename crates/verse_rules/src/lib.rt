@@ -9,5 +9,6 @@ pub mod forms;
 pub mod give;
 pub mod lying;
 pub mod normalization;
+pub mod redex;
 pub mod signed;
 pub mod unification;

@@ -1,82 +1,74 @@
 // Tests of the parts of an equation.
 ghost use Rattle.std.specs.Prelude.{◌≡◌, ℕ, Decides};
 ghost use Rattle.terms.specs.Rows.{Row};
-ghost use Rattle.terms.specs.Standing.{Stands};
+ghost use Rattle.terms.specs.Forest.{Are};
+ghost use Rattle.pieces.specs.Parts.{OneTree};
 ghost use Rattle.verse.specs.Syntax.Sort.{val, equ};
 ghost use Rattle.verse.specs.Lines.{Deep, Holds};
 ghost use Rattle.verse_rules.specs.Reads.{Reads};
 ghost use Rattle.verse_rules.specs.Tests.{Apart, Early, Clear};
 
-use crate::cells::{EQUATION, VARIABLE};
+use crate::cells::{EQUATION, variable_cell};
 use crate::forms::{value, variable};
-use moves::substitution::end_of;
-use pieces::span::Span;
-use terms::cell::{children, kind};
+use pieces::parts::{is, two};
+use terms::cell::kind;
+use terms::forest::Trees;
+use verse::kind::Kind;
 
 // Can two heads with these cells never be equal?
 pub fn never_equal(c: u64, d: u64) -> bool
     ensures { Decides result (Apart c d) }
 {
-    if kind(c) == 4 {
-        return false;
-    }
-    if kind(d) == 4 {
-        return false;
-    }
-    c != d || kind(c) == 2
+    kind(c) != Kind::Lambda as u8
+        && kind(d) != Kind::Lambda as u8
+        && (c != d || kind(c) == Kind::Operator as u8)
 }
 
 // Is the part y = v, v a value, with y up to x?
-pub fn early(cells: &[u64], at: Span, x: u32) -> bool
-    ensures { (q : Row) → Reads equ q cells.now at → Decides result (Early x q) }
+pub fn early(part: &[u64], x: u32) -> bool
+    ensures { (q : Row) → Reads equ q part.now → Decides result (Early x q) }
 {
-    let Some((a, b)) = at.two(cells, EQUATION) else {
-        return false;
-    };
-    let Ok(y) = variable(cells, a) else {
-        return false;
-    };
-    match value(cells, b) {
-        Ok(_) => y <= x,
-        Err(_) => false,
+    match two(part, EQUATION) {
+        Some((a, b)) => matches!(variable(a), Ok(y) if y <= x) && value(b).is_ok(),
+        None => false,
     }
 }
 
-// Where the n trees at a cell end, if the variable x is none of them and lies in none under tuples and nothing else.
-fn clear_of(cells: &[u64], at: usize, n: usize, x: u32) -> Option<usize>
-    requires { (t : Row) × Stands t n cells.now at }
-    ensures { (t : Row) → Stands t n cells.now at → Clear x t at result }
+// Where the trees end, if the variable x is none of them and lies in none under tuples and nothing else.
+fn clear_of(trees: Trees, x: u32) -> Option<usize>
+    ensures { (t : Row) → Are trees.entry t → Clear x t trees.entry.at result }
 {
-    if n == 0 {
-        return Some(at);
-    }
-    let c = cells[at];
-    if c == VARIABLE + x as u64 {
+    let Some((c, below)) = trees.first() else {
+        return Some(trees.at);
+    };
+    if c == variable_cell(x) {
         return None;
     }
-    if kind(c) == 3 {
-        let next = clear_of(cells, at + 1, children(c), x)?;
-        return clear_of(cells, next, n - 1, x);
-    }
-    let after = end_of(cells, at + 1, children(c));
-    clear_of(cells, after, n - 1, x)
+    let next = if kind(c) == Kind::Tuple as u8 {
+        clear_of(below, x)?
+    } else {
+        below.end()
+    };
+    clear_of(trees.others(next), x)
 }
 
 // Is the value x, or does x lie in it under tuples and nothing else?
-pub fn lies_in(cells: &[u64], at: Span, x: u32) -> bool
-    requires { (v : Row) × Reads val v cells.now at }
-    ensures { (v : Row) → Reads val v cells.now at → Decides result (Holds x v) }
+pub fn lies_in(part: &[u64], x: u32) -> bool
+    requires { ∥ OneTree part.now ∥₁ }
+    ensures { (v : Row) → Reads val v part.now → Decides result (Holds x v) }
 {
-    clear_of(cells, at.start, 1, x).is_none()
+    let value = Trees {
+        cells: part,
+        at: 0,
+        n: 1,
+    };
+    clear_of(value, x).is_none()
 }
 
 // Does x lie in the value under one or more tuples and nothing else?
-pub fn lies_deep(cells: &[u64], at: Span, x: u32) -> bool
-    requires { (v : Row) × Reads val v cells.now at }
-    ensures { (v : Row) → Reads val v cells.now at → Decides result (Deep x v) }
+pub fn lies_deep(part: &[u64], x: u32) -> bool
+    requires { ∥ OneTree part.now ∥₁ }
+    ensures { (v : Row) → Reads val v part.now → Decides result (Deep x v) }
 {
-    if at.is(cells, VARIABLE + x as u64) {
-        return false;
-    }
-    lies_in(cells, at, x)
+    !is(part, variable_cell(x)) && lies_in(part, x)
 }

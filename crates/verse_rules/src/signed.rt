@@ -7,10 +7,9 @@ ghost use Rattle.verse_rules.specs.Tests.{Summed};
 pub fn sum(m: u32, n: u32) -> Option<u32>
     ensures { Summed (value m +ℤ value n) result }
 {
-    match m.cast_signed().checked_add(n.cast_signed()) {
-        Some(k) => Some(k.cast_unsigned()),
-        None => None,
-    }
+    m.cast_signed()
+        .checked_add(n.cast_signed())
+        .map(|k| k.cast_unsigned())
 }
 
 // Is the first the greater?

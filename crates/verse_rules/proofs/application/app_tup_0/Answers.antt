@@ -1,27 +1,25 @@
 use Rattle.std.proofs.Common.{refl, ap, ◌∙◌}
 use Rattle.terms.specs.Rows.Row.{none}
-use Rattle.verse.specs.Syntax.{app, tuple, fail}
+use Rattle.verse.specs.Syntax.{app, tuple}
 use Rattle.verse.specs.Syntax.Sort.{val, exp}
-use Rattle.verse_rules.proofs.Makes.{refused, written, nothing, lay, made}
+use Rattle.verse_rules.proofs.Lawfuls.{whole_reads}
+use Rattle.verse_rules.proofs.Makes.{refused, written}
 use Rattle.verse_rules.proofs.Sames.{same_two}
 use Rattle.verse_rules.proofs.application.app_tup_0.Goals as goal
 
 pub returns-in_err-f : goal.returns-in_err-f
 returns-in_err-f c = λ t inner h e.
-    let n = c.in_err-f.ensures exp t (c.whole.ensures t h e) in
+    let n = c.in_err-f.ensures exp t (whole_reads h e) in
     refused _ _ _ _ c.from_residual.ensures.1 n.0 (λ l. n.1 (tuple none) l.v l.is)
 
 pub returns-in_err-exactly : goal.returns-in_err-exactly
 returns-in_err-exactly c = λ t inner h e.
-    let p = c.in_ok-f.ensures exp t (c.whole.ensures t h e) in
+    let p = c.in_ok-f.ensures exp t (whole_reads h e) in
     let n = c.in_err-exactly.ensures val p.0 p.3 in
     refused _ _ _ _ c.from_residual-in_err-exactly.ensures.1 n.0 (λ l. n.1 (same_two (tuple none) l.v p.2 p.3 l.is refl).0)
 
-pub give-requires : goal.give-requires
-give-requires c = (fail, made (lay (nothing _) _) fail refl)
-
 pub returns : goal.returns
 returns c = λ t inner h e.
-    let p = c.in_ok-f.ensures exp t (c.whole.ensures t h e) in
+    let p = c.in_ok-f.ensures exp t (whole_reads h e) in
     let f = c.in_ok-exactly.ensures val p.0 p.3 in
-    written _ fail _ _ _ (record { v = p.1; letters = p.4.lawful; is = p.2 ∙ ap (λ x. app x p.1) f }, tt, tt, refl) (c.give.ensures fail (made (lay (nothing _) _) fail refl))
+    written _ _ _ _ c.give.ensures (record { v = p.1; letters = p.4.lawful; is = p.2 ∙ ap (λ x. app x p.1) f }) tt tt refl

@@ -1,6 +1,5 @@
-use Rattle.verse_rules.proofs.Lawfuls.{is_integer}
-use Rattle.std.proofs.Common.{arith}
+use Rattle.verse_rules.proofs.Lawfuls.{as_integer}
 use Rattle.verse_rules.proofs.forms.integer.Goals as goal
 
 pub returns : goal.returns
-returns c = λ s t h. is_integer t c.in-Some.c (c.in-Some.ensures.reads t h.lies) s _ _ h (omega arith) _ c.payload.ensures
+returns c = λ s t h. as_integer s t _ h c.leaf.result (c.leaf.ensures s t h)

@@ -6,4 +6,4 @@ use Rattle.verse_rules.proofs.forms.one_of.Goals as goal
 
 pub returns : goal.returns
 unfolding kids
-returns c = λ s t h. sole s t _ _ _ h exp c.only.result _ refl (c.only.ensures t h.lies) c.ok_or.ensures.value
+returns c = λ s t h. sole s t _ _ h exp c.only.result _ refl (c.only.ensures t h.is) c.ok_or.ensures.value

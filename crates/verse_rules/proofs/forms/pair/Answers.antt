@@ -6,4 +6,4 @@ use Rattle.verse_rules.proofs.forms.pair.Goals as goal
 
 pub returns : goal.returns
 unfolding kids
-returns c = λ s t h. twofold s t _ _ _ h val val c.two.result _ refl (c.two.ensures t h.lies) c.ok_or.ensures.value
+returns c = λ s t h. twofold s t _ _ h val val c.two.result _ refl (c.two.ensures t h.is) c.ok_or.ensures.value

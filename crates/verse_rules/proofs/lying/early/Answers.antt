@@ -1,36 +1,32 @@
-use Rattle.std.proofs.Common.{sym, refl, ap, ◌∙◌, subst, arith}
-use mathlib.Core.Bool.{false≢true}
-use Rattle.std.proofs.lemmas.Bool.{leb-true, le-leb}
+use Rattle.std.proofs.Common.{Some, Ok, Decides, sym, refl, ◌∙◌, subst, arith}
+use Rattle.std.proofs.lemmas.Bool.{false≢true}
 use Rattle.terms.specs.Rows.{var}
-use Rattle.terms.proofs.Inject.{top}
-use Rattle.verse.specs.Syntax.{eqn, Val}
 use Rattle.verse.specs.Syntax.Sort.{val, exp}
+use Rattle.verse_rules.specs.Tests.{Early}
+use Rattle.verse_rules.proofs.Earlies.{early_if, not_late, no_variable}
 use Rattle.verse_rules.proofs.Lawfuls.{equated}
-use Rattle.verse_rules.proofs.Sames.{same_two}
 use Rattle.verse_rules.proofs.lying.early.Goals as goal
+use Rattle.verse_rules.proofs.lying.early.Goals.{in-Ok, in_default-2, in_default}
 
-pub returns-in_default : goal.returns-in_default
-returns-in_default c = λ q h. (λ k. absurd (false≢true k), λ r. absurd (c.in_default.ensures q h.lies (var r.0) r.1 r.4))
+pub returns-then-matches : goal.returns-then-matches
+returns-then-matches c = λ q h.
+    let w = equated q _ (Some (c.in-Some.a, c.in-Some.b)) (Ok (c.in-Some.a, c.in-Some.b)) h (c.in-Some.ensures q h.is) refl in
+    subst (λ r. Decides r (Early c.args.x q)) (sym c.is_ok.ensures.value) (elim c.match-matches.branch [
+      | in-Ok z ↦ early_if q w.0 w.1 c.args.x _ _ w.2 w.3 z.in-Ok.y (z.in-Ok.ensures val w.0 w.3) (omega arith) c.value.result (c.value.ensures exp w.1 w.4)
+      | in_default-2 z ↦ absurd (false≢true (sym z.matches-is ∙ c.if-matches.true))
+      | in_default z ↦ absurd (false≢true (sym z.matches-is ∙ c.if-matches.true))
+    ])
 
-pub returns-in_default-variable : goal.returns-in_default-variable
-returns-in_default-variable c = λ q h.
-    let w = equated q _ _ _ _ h (c.in-Some.ensures q h.lies) in
-    let n = c.in_default-variable.ensures val w.0 w.3 in
-    (λ k. absurd (false≢true k), λ r. absurd (n.1 r.0 r.2 (same_two (var r.0) r.1 w.2 w.3 r.4 refl).0))
-
-pub returns-in-Ok-value : goal.returns-in-Ok-value
-returns-in-Ok-value c = λ q h.
-    let w = equated q _ _ _ _ h (c.in-Some.ensures q h.lies) in
-    let y = c.in-Ok.ensures val w.0 w.3 in
-    let v = c.in-Ok-value.ensures exp w.1 w.4 in (
-      λ k. (c.in-Ok.y, w.1, y.0, v.lawful, w.2 ∙ ap (λ z. eqn z w.1) y.1, leb-true _ _ k),
-      λ r.
-          let s = ap top (sym y.1 ∙ (same_two (var r.0) r.1 w.2 w.3 r.4 refl).0) in
-          le-leb _ _ (omega (arith, s, r.5)),
+pub returns-else-matches : goal.returns-else-matches
+returns-else-matches c = λ q h.
+    let w = equated q _ (Some (c.in-Some.a, c.in-Some.b)) (Ok (c.in-Some.a, c.in-Some.b)) h (c.in-Some.ensures q h.is) refl in (
+      λ k. absurd (false≢true (sym c.if-matches.false ∙ k)),
+      λ r. absurd (elim c.match-matches.branch [
+        | in-Ok z ↦ false≢true (sym c.if-matches.false ∙ z.matches-is)
+        | in_default-2 z ↦ not_late q w.0 w.1 c.args.x _ c.in-Some.b.now w.2 w.3 z.in-Ok.y (z.in-Ok.ensures val w.0 w.3) (λ l. omega arith) r
+        | in_default z ↦ no_variable q w.0 w.1 c.args.x _ c.in-Some.b.now w.2 w.3 _ (z.in_default.ensures val w.0 w.3) r
+      ]),
     )
 
-pub returns-in-Err : goal.returns-in-Err
-returns-in-Err c = λ q h.
-    let w = equated q _ _ _ _ h (c.in-Some.ensures q h.lies) in
-    let n = c.in-Err.ensures exp w.1 w.4 in
-    (λ k. absurd (false≢true k), λ r. absurd (n.1 (subst Val (sym (same_two (var r.0) r.1 w.2 w.3 r.4 refl).1) r.3)))
+pub returns-in-None : goal.returns-in-None
+returns-in-None c = λ q h. (λ k. absurd (false≢true k), λ r. absurd (c.in-None.ensures q h.is (var r.0) r.1 r.4))

@@ -1,0 +1,8 @@
+use Rattle.std.proofs.Common.{◌≡◌, subst, sym, Decides}
+use Rattle.terms.specs.Rows.Row.{none, node}
+use Rattle.pieces.proofs.Splits.{alone}
+use Rattle.pieces.proofs.parts.is.Goals as goal
+
+pub returns : goal.returns
+returns c = λ t s.
+    subst (λ b. Decides b (t ≡ node c.args.cell none none)) (sym c.eq.ensures) (alone t c.args.cell c.args.part.now c.top.result s c.requires (c.top.ensures.reads t s))
