@@ -1,6 +1,7 @@
 -- What every calculus owes, of the Verse calculus, from the two laws of its rules. Assumes nothing.
 use Rattle.std.proofs.Common.{◌≡◌, ℕ, ◌^◌, ◌<◌, ◌≤◌, Bool, true, false, cond, ◌&&◌, ◌||◌, eqb, leb, ◌⊎◌, List, [], ◌∷◌, ◌++◌, length, Result, sym, refl, ap, ◌∙◌, subst, inl, inr, ⊎_elim, arith}
 use lib.ListN.{length-replicate}
+use Rattle.std.proofs.lemmas.Bool.{and_parts, or_cases}
 use Rattle.std.proofs.lemmas.Bool.Decides.{nat_tests}
 use Rattle.terms.specs.Cells.{kind, binder, children, zeros, payload, form, Fields}
 use Rattle.terms.specs.Rows.{Row, size, width, var, replace, «for», Counted, Formed, Place}
@@ -31,14 +32,6 @@ record Good (c : ℕ) : Type 0 where
   bare : kind c ≡ 0 → c < 2 ^ 32
   counts : length (children_of (kind c) (children c)) ≡ children c
 
-either : (a b : Bool) → a || b ≡ true → (a ≡ true) ⊎ (b ≡ true)
-either true b h = inl refl
-either false b h = inr h
-
-both : (a b : Bool) → a && b ≡ true → a ≡ true
-both true b h = refl
-both false b h = h
-
 -- a cell of a form is good, if the form is
 form_good : (k b n c : ℕ) → k ≤ 12 → b ≤ n → (k ≡ 0 → n ≡ 0) → length (children_of k n) ≡ n → form k b n c ≡ true → Good c
 form_good k b n c kl bl leaf l h =
@@ -51,24 +44,24 @@ form_good k b n c kl bl leaf l h =
     record { small = s; blank = ez; under = omega (arith, eb, en); bare = bare_word c s fields; counts = ap (λ z. length (children_of z (children c))) ek ∙ ap (λ z. length (children_of k z)) en ∙ l ∙ sym en }
 
 plain_good : (k b n c : ℕ) → k ≤ 12 → b ≤ n → (k ≡ 0 → n ≡ 0) → length (children_of k n) ≡ n → plain k b n c ≡ true → Good c
-plain_good k b n c kl bl leaf l h = form_good k b n c kl bl leaf l (both (form k b n c) (eqb (payload c) 0) h)
+plain_good k b n c kl bl leaf l h = form_good k b n c kl bl leaf l (and_parts (form k b n c) (eqb (payload c) 0) h).0
 
 head_good : (c : ℕ) → head_cell c ≡ true → Good c
 head_good c h =
     ⊎_elim (form_good 1 0 0 c (omega arith) (omega arith) (λ e. refl) refl)
-    (λ x. ⊎_elim (λ y. form_good 2 0 0 c (omega arith) (omega arith) (λ e. refl) refl (both (form 2 0 0 c) _ y))
-    (λ y. ⊎_elim (λ z. plain_good 3 0 (children c) c (omega arith) (omega arith) (λ e. absurd (omega (arith, e))) (length-replicate (children c) val) (both (plain 3 0 (children c) c) _ z))
+    (λ x. ⊎_elim (λ y. form_good 2 0 0 c (omega arith) (omega arith) (λ e. refl) refl (and_parts (form 2 0 0 c) _ y).0)
+    (λ y. ⊎_elim (λ z. plain_good 3 0 (children c) c (omega arith) (omega arith) (λ e. absurd (omega (arith, e))) (length-replicate (children c) val) (and_parts (plain 3 0 (children c) c) _ z).0)
     (plain_good 4 1 1 c (omega arith) (omega arith) (λ e. absurd (omega (arith, e))) refl)
-    (either (plain 3 0 (children c) c && leb (children c) 255) (plain 4 1 1 c) y))
-    (either (form 2 0 0 c && leb (payload c) 1) (plain 3 0 (children c) c && leb (children c) 255 || plain 4 1 1 c) x))
-    (either (form 1 0 0 c) (form 2 0 0 c && leb (payload c) 1 || (plain 3 0 (children c) c && leb (children c) 255 || plain 4 1 1 c)) h)
+    (or_cases (plain 3 0 (children c) c && leb (children c) 255) (plain 4 1 1 c) y))
+    (or_cases (form 2 0 0 c && leb (payload c) 1) (plain 3 0 (children c) c && leb (children c) 255 || plain 4 1 1 c) x))
+    (or_cases (form 1 0 0 c) (form 2 0 0 c && leb (payload c) 1 || (plain 3 0 (children c) c && leb (children c) 255 || plain 4 1 1 c)) h)
 
 value_good : (c : ℕ) → value_cell c ≡ true → Good c
-value_good c h = ⊎_elim (form_good 0 0 0 c (omega arith) (omega arith) (λ e. refl) refl) (head_good c) (either (form 0 0 0 c) (head_cell c) h)
+value_good c h = ⊎_elim (form_good 0 0 0 c (omega arith) (omega arith) (λ e. refl) refl) (head_good c) (or_cases (form 0 0 0 c) (head_cell c) h)
 
 -- one form after another
 or_plain : (k b n c : ℕ) → k ≤ 12 → b ≤ n → (k ≡ 0 → n ≡ 0) → length (children_of k n) ≡ n → (more : Bool) → (more ≡ true → Good c) → plain k b n c || more ≡ true → Good c
-or_plain k b n c kl bl leaf l more f h = ⊎_elim (plain_good k b n c kl bl leaf l) f (either (plain k b n c) more h)
+or_plain k b n c kl bl leaf l more f h = ⊎_elim (plain_good k b n c kl bl leaf l) f (or_cases (plain k b n c) more h)
 
 exp_good : (c : ℕ) → expression_cell c ≡ true → Good c
 exp_good c h =
@@ -80,7 +73,7 @@ exp_good c h =
     (or_plain 10 0 2 c (omega arith) (omega arith) (λ e. absurd (omega (arith, e))) refl _
     (or_plain 11 0 1 c (omega arith) (omega arith) (λ e. absurd (omega (arith, e))) refl _
     (plain_good 12 0 1 c (omega arith) (omega arith) (λ e. absurd (omega (arith, e))) refl)))))))
-    (either (value_cell c) (plain 5 0 2 c || (plain 6 0 2 c || (plain 8 1 1 c || (plain 9 0 0 c || (plain 10 0 2 c || (plain 11 0 1 c || plain 12 0 1 c)))))) h)
+    (or_cases (value_cell c) (plain 5 0 2 c || (plain 6 0 2 c || (plain 8 1 1 c || (plain 9 0 0 c || (plain 10 0 2 c || (plain 11 0 1 c || plain 12 0 1 c)))))) h)
 
 good : (s : Sort) (c : ℕ) → admits s c ≡ true → Good c
 unfolding admits
@@ -88,7 +81,7 @@ good val c a = value_good c a
 good hnf c a = head_good c a
 good exp c a = exp_good c a
 good equ c a =
-    ⊎_elim (exp_good c) (plain_good 7 0 2 c (omega arith) (omega arith) (λ e. absurd (omega (arith, e))) refl) (either (expression_cell c) (plain 7 0 2 c) a)
+    ⊎_elim (exp_good c) (plain_good 7 0 2 c (omega arith) (omega arith) (λ e. absurd (omega (arith, e))) refl) (or_cases (expression_cell c) (plain 7 0 2 c) a)
 
 pub word : (s : Sort) (c : ℕ) → admits s c ≡ true → (c < 2 ^ 64) × (zeros c ≡ 0) × (binder c ≤ children c) × (kind c ≡ 0 → c < 2 ^ 32)
 word s c a = let g = good s c a in (g.small, g.blank, g.under, g.bare)

@@ -1,9 +1,10 @@
 -- Down an inner place by choices, step by step.
-use Rattle.std.proofs.Common.{◌≡◌, ℕ, ◌+◌, ◌<◌, ◌≤◌, Bool, true, false, eqb, ◌⊎◌, List, [], ◌∷◌, ◌++◌, get_or, Some, None, Option, sym, refl, ap, ◌∙◌, inl, inr, arith, length-append}
+use Rattle.std.proofs.Common.{◌≡◌, ℕ, ◌+◌, ◌<◌, ◌≤◌, Bool, true, false, eqb, ◌⊎◌, List, [], ◌∷◌, ◌++◌, Some, None, Option, sym, refl, ap, ◌∙◌, inl, inr, arith, length-append}
 use Rattle.std.proofs.lemmas.Bool.Decides.{nat_tests}
 use Rattle.terms.specs.Cells.{kind}
+use Rattle.terms.specs.Forest.{Are, Headed}
 use Rattle.terms.specs.Rows.{Row, flat, size, kind_of}
-use Rattle.terms.specs.Standing.{Stands}
+use Rattle.terms.specs.declared.forest.Trees.{Trees}
 use Rattle.terms.proofs.Inject.{under}
 use Rattle.terms.proofs.Trees.{flat_size}
 use Rattle.verse.specs.Contexts.{Context, ◌⟦◌⟧, place, CX, SC, SX, Down}
@@ -12,11 +13,11 @@ use Rattle.verse.specs.Syntax.{choice, one, all, admits, kids, Exp}
 use Rattle.verse.specs.Syntax.Sort.{exp}
 use Rattle.verse.proofs.Laws.{beside, plug_cx}
 use Rattle.verse.proofs.Unique.{two, wide}
-use Rattle.verse_terms.proofs.Shapes.{one_part, all_part}
 use Rattle.verse_contexts.specs.declared.down.Way.TheVariants.{Choice}
 use Rattle.verse_contexts.specs.declared.scope.Branch.{Branch}
 use Rattle.verse_contexts.specs.Frames.{left}
 use Rattle.verse_contexts.specs.Scopes.{Both, Branched, AtOnce}
+use Rattle.verse_contexts.proofs.Heads.{one as one_in, all as all_in}
 use Rattle.verse_contexts.proofs.Walkings.{stray}
 
 pub choice_exp : (a b : Row) → Exp a → Exp b → Exp (choice a b)
@@ -154,12 +155,12 @@ inside (inl e) (inr f) = ap under (sym f ∙ e)
 inside (inr e) (inl f) = ap under (sym f ∙ e)
 inside (inr e) (inr f) = ap under (sym f ∙ e)
 
-pub scope_in : (inner : List ℕ) (t a : Row) (rest : List ℕ) → inner ≡ 0 ∷ rest → (t ≡ one a) ⊎ (t ≡ all a) → (r : Option Branch) → Branched SC rest a 1 r → Branched SX inner t 0 r
-scope_in inner t a rest p (inl is) (Some x) (d, e, f) =
+pub scope_in : (inner : List ℕ) (t a : Row) (at : ℕ) (rest : List ℕ) → inner ≡ 0 ∷ rest → (t ≡ one a) ⊎ (t ≡ all a) → (r : Option Branch) → Branched SC rest a (at + 1) r → Branched SX inner t at r
+scope_in inner t a at rest p (inl is) (Some x) (d, e, f) =
     (record { S = in_one d.S; C = d.C; goes = d.goes; way = p ∙ ap (λ l. 0 ∷ l) d.way; hole = d.hole; there = d.there; is = is ∙ ap one d.is }, omega (arith, e), f)
-scope_in inner t a rest p (inr is) (Some x) (d, e, f) =
+scope_in inner t a at rest p (inr is) (Some x) (d, e, f) =
     (record { S = in_all d.S; C = d.C; goes = d.goes; way = p ∙ ap (λ l. 0 ∷ l) d.way; hole = d.hole; there = d.there; is = is ∙ ap all d.is }, omega (arith, e), f)
-scope_in inner t a rest p is None lost = λ d.
+scope_in inner t a at rest p is None lost = λ d.
     let n = enters inner t d in
     lost (both_as (tails (sym n.way ∙ p)) (inside is n.is) n.both)
 
@@ -167,19 +168,16 @@ scoped_kind : {t a : Row} → (t ≡ one a) ⊎ (t ≡ all a) → (11 ≤ kind_o
 scoped_kind (inl e) = let n = ap kind_of e in (omega (arith, n), omega (arith, n))
 scoped_kind (inr e) = let n = ap kind_of e in (omega (arith, n), omega (arith, n))
 
-pub scope_empty : (inner : List ℕ) (t : Row) → inner ≡ [] → Branched SX inner t 0 None
-scope_empty inner t e = λ d. nothing (sym (enters inner t d).way ∙ e)
-
-pub scope_stray : (inner : List ℕ) (t : Row) (j : ℕ) (rest : List ℕ) → inner ≡ j ∷ rest → (11 ≤ kind_of t → kind_of t ≤ 12 → j ≡ 0 → ⊥) → Branched SX inner t 0 None
-scope_stray inner t j rest p n = λ d.
+pub scope_stray : (inner : List ℕ) (t : Row) (at : ℕ) → ((rest : List ℕ) → 11 ≤ kind_of t → kind_of t ≤ 12 → inner ≡ 0 ∷ rest → ⊥) → Branched SX inner t at None
+scope_stray inner t at n = λ d.
     let x = enters inner t d in
     let k = scoped_kind x.is in
-    n k.0 k.1 (heads (sym p ∙ x.way))
+    n x.rest k.0 k.1 x.way
 
 -- what a one or an all has inside
-pub scope_part : {t : Row} {at : ℕ} {cells : List ℕ} → Stands t 1 cells at → Exp t → 11 ≤ kind (get_or cells at 0) → kind (get_or cells at 0) ≤ 12 → (a : Row) × ((t ≡ one a) ⊎ (t ≡ all a)) × Exp a × Stands a 1 cells (at + 1)
-scope_part {t} {at} {cells} s h l m = go (eqb (kind (get_or cells at 0)) 11) refl
+pub scope_part : {trees parts : Trees} {c : ℕ} → Headed trees (Some (c, parts)) → {t : Row} → Exp t → Are trees t → 11 ≤ kind c → kind c ≤ 12 → (a : Row) × ((t ≡ one a) ⊎ (t ≡ all a)) × Exp a × Are parts a
+scope_part {trees} {parts} {c} h {t} e s l m = go (eqb (kind c) 11) refl
   where
-    go : (b : Bool) → eqb (kind (get_or cells at 0)) 11 ≡ b → (a : Row) × ((t ≡ one a) ⊎ (t ≡ all a)) × Exp a × Stands a 1 cells (at + 1)
-    go true e = let k : kind (get_or cells at 0) ≡ 11 = grind (arith, nat_tests) in let p = one_part exp s h k in (p.a, inl p.is, p.lawful, p.first)
-    go false e = let k : kind (get_or cells at 0) ≡ 12 = grind (arith, nat_tests) in let p = all_part exp s h k in (p.a, inr p.is, p.lawful, p.first)
+    go : (b : Bool) → eqb (kind c) 11 ≡ b → (a : Row) × ((t ≡ one a) ⊎ (t ≡ all a)) × Exp a × Are parts a
+    go true q = let k : kind c ≡ 11 = grind (arith, nat_tests) in let p = one_in exp h e s k in (p.a, inl p.is, p.lawful, p.all)
+    go false q = let k : kind c ≡ 12 = grind (arith, nat_tests) in let p = all_in exp h e s k in (p.a, inr p.is, p.lawful, p.all)

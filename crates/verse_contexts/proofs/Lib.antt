@@ -1,3 +1,4 @@
+pub mod Heads
 pub mod Plugs
 pub mod Openings
 pub mod Walkings

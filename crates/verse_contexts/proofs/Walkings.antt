@@ -67,22 +67,6 @@ pub one_entry : (inner : List ℕ) → 0 < length inner → inner ≡ get_or inn
 one_entry [] h = absurd (omega arith)
 one_entry (j ∷ rest) h = ap (λ l. j ∷ l) (sym (take_all (length (j ∷ rest) - 1) rest (omega arith)))
 
-pub two_entries : (inner : List ℕ) → 1 < length inner → inner ≡ get_or inner 0 0 ∷ get_or inner 1 0 ∷ take (length inner - 2) (drop 2 inner)
-two_entries [] h = absurd (omega arith)
-two_entries (j ∷ []) h = absurd (omega arith)
-two_entries (j ∷ k ∷ rest) h = ap (λ l. j ∷ k ∷ l) (sym (take_all (length (j ∷ k ∷ rest) - 2) rest (omega arith)))
-
--- one that is not 1 after the first, or none there
-pub short_entries : (inner : List ℕ) → length inner < 2 → (rest : List ℕ) → take (length inner - 1) (drop 1 inner) ≡ 1 ∷ rest → ⊥
-short_entries [] h rest e = let z : ◌≡◌ {A = ℕ} 0 1 = cc e in omega arith
-short_entries (j ∷ []) h rest e = let z : ◌≡◌ {A = ℕ} 0 1 = cc (sym (take_all (length (j ∷ []) - 1) [] (omega arith)) ∙ e) in omega arith
-short_entries (j ∷ k ∷ more) h rest e = omega arith
-
-pub other_entry : (inner : List ℕ) → 1 < length inner → (get_or inner 1 0 ≡ 1 → ⊥) → (rest : List ℕ) → take (length inner - 1) (drop 1 inner) ≡ 1 ∷ rest → ⊥
-other_entry [] h n rest e = omega arith
-other_entry (j ∷ []) h n rest e = omega arith
-other_entry (j ∷ k ∷ more) h n rest e = n (heads (sym (take_all (length (j ∷ k ∷ more) - 1) (k ∷ more) (omega arith)) ∙ e))
-
 pub no_entries : (inner : List ℕ) → length inner ≡ 0 → inner ≡ []
 no_entries [] h = refl
 no_entries (j ∷ rest) h = absurd (omega arith)

@@ -1,3 +1,4 @@
+pub mod Parts
 pub mod Frames
 pub mod Walks
 pub mod Scopes

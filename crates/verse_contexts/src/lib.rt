@@ -2,4 +2,5 @@
 #![tactic(auto)]
 
 pub mod down;
+mod part;
 pub mod scope;

@@ -1,14 +1,17 @@
 // Down an inner place by a scope context, and then by a choice context.
+ghost use Rattle.std.specs.Prelude.{◌≤◌, ◌↔◌, IsTrue};
+ghost use Rattle.terms.specs.Cells.{kind};
+ghost use Rattle.terms.specs.Forest.{Are};
 ghost use Rattle.terms.specs.Rows.{Row};
-ghost use Rattle.terms.specs.Standing.{Stands};
 ghost use Rattle.verse.specs.Contexts.{SC, SX};
 ghost use Rattle.verse.specs.Syntax.{Exp};
 ghost use Rattle.verse_contexts.specs.Scopes.{Branched, AtOnce};
 
 use crate::down::{Way, down};
-use moves::substitution::end_of;
+use crate::part::{first, second};
 use terms::cell::kind;
-use verse_terms::form::{ALL, CHOICE, ONE};
+use terms::forest::Trees;
+use verse::kind::Kind;
 
 // Where the choice context begins, and where its hole is.
 #[derive(Clone, Copy, PartialEq, Eq, Debug)]
@@ -17,40 +20,47 @@ pub struct Branch {
     pub hole: usize,
 }
 
-// From the expression at a cell by a choice context alone.
-fn down_choice(redex: &[u64], at: usize, inner: &[u8]) -> Option<Branch>
-    requires { (t : Row) × Exp t × Stands t 1 redex.now at }
-    ensures { (t : Row) → Exp t → Stands t 1 redex.now at → AtOnce inner.now t at result }
+// From the expression by a choice context alone.
+fn down_choice(expression: Trees, inner: &[u8]) -> Option<Branch>
+    ensures { (t : Row) → Exp t → Are expression.entry t → AtOnce inner.now t expression.entry.at result }
 {
-    let hole = down(Way::Choice, redex, at, inner)?;
-    Some(Branch { scope: at, hole })
+    let hole = down(Way::Choice, expression, inner)?;
+    Some(Branch {
+        scope: expression.at,
+        hole,
+    })
 }
 
-// From the expression at a cell by choices, as far as there are any, and then by a choice context.
-pub fn down_choices(redex: &[u64], at: usize, inner: &[u8]) -> Option<Branch>
-    requires { (t : Row) × Exp t × Stands t 1 redex.now at }
-    ensures { (t : Row) → Exp t → Stands t 1 redex.now at → Branched SC inner.now t at result }
+// From the expression by choices, as far as there are any, and then by a choice context.
+pub fn down_choices(expression: Trees, inner: &[u8]) -> Option<Branch>
+    ensures { (t : Row) → Exp t → Are expression.entry t → Branched SC inner.now t expression.entry.at result }
 {
-    if kind(redex[at]) != CHOICE || inner.is_empty() {
-        return down_choice(redex, at, inner);
+    let (c, parts) = expression.first()?;
+    if kind(c) != Kind::Choice as u8 {
+        return down_choice(expression, inner);
     }
-    match inner[0] {
-        0 => down_choices(redex, at + 1, &inner[1..]),
-        1 => down_choices(redex, end_of(redex, at + 1, 1), &inner[1..]),
+    match inner {
+        [] => down_choice(expression, inner),
+        [0, rest @ ..] => down_choices(first(parts)?, rest),
+        [1, rest @ ..] => down_choices(second(parts)?, rest),
         _ => None,
     }
 }
 
-// From a one or an all, by its choices and then by a choice context.
-pub fn down_scope(redex: &[u64], inner: &[u8]) -> Option<Branch>
-    requires { (t : Row) × Exp t × Stands t 1 redex.now 0 }
-    ensures { (t : Row) → Exp t → Stands t 1 redex.now 0 → Branched SX inner.now t 0 result }
+// Is the cell a one or an all?
+fn is_scope(c: u64) -> bool
+    ensures { IsTrue result ↔ ((11 ≤ kind c) × (kind c ≤ 12)) }
 {
-    if inner.is_empty() {
-        return None;
-    }
-    match (kind(redex[0]), inner[0]) {
-        (ONE | ALL, 0) => down_choices(redex, 1, &inner[1..]),
+    matches!(Kind::try_from(kind(c)), Ok(Kind::One | Kind::All))
+}
+
+// From a one or an all, by its choices and then by a choice context.
+pub fn down_scope(expression: Trees, inner: &[u8]) -> Option<Branch>
+    ensures { (t : Row) → Exp t → Are expression.entry t → Branched SX inner.now t expression.entry.at result }
+{
+    let (c, parts) = expression.first()?;
+    match inner {
+        [0, rest @ ..] if is_scope(c) => down_choices(parts, rest),
         _ => None,
     }
 }

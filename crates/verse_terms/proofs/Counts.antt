@@ -1,5 +1,6 @@
 -- Cells of a lawful row have one of the forms, and its tree counts its children.
 use Rattle.std.proofs.Common.{◌≡◌, ℕ, Bool, true, false, ◌||◌, List, [], ◌∷◌, sym, refl, ap, ◌∙◌, arith}
+use Rattle.std.proofs.Math.Bool.{or-true}
 use Rattle.terms.specs.Cells.{form}
 use Rattle.terms.specs.Rows.{Row, flat}
 use Rattle.terms.specs.Terms.{TreeOf}
@@ -44,11 +45,7 @@ exp_form c h = go (applied c) (sequenced c) (joined c) refl refl refl
 pub form_of : (s : Sort) (c : ℕ) → admits s c ≡ true → Form c
 unfolding admits
 form_of val c h = val_form c h
-form_of hnf c h = val_form c (ap (λ b. form 0 0 0 c || b) h ∙ or_true (form 0 0 0 c))
-  where
-    or_true : (a : Bool) → a || true ≡ true
-    or_true true = refl
-    or_true false = refl
+form_of hnf c h = val_form c (ap (λ b. form 0 0 0 c || b) h ∙ or-true (form 0 0 0 c))
 form_of exp c h = exp_form c h
 form_of equ c h = go (equated c) refl
   where

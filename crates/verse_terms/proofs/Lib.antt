@@ -1,7 +1,9 @@
 pub mod Sorts
+pub mod Admitting
 pub mod Judges
 pub mod Counts
 pub mod Parts
 pub mod Sites
 pub mod Choosing
+pub mod Forests
 pub mod Shapes

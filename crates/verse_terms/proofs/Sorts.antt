@@ -1,10 +1,12 @@
 -- The grammar of the Verse calculus: each sort has a tree, and which cells a sort admits with which children.
-use Rattle.std.proofs.Common.{◌≡◌, ℕ, zero, suc, ◌≤◌, Bool, true, false, ◌||◌, ◌⊎◌, List, [], ◌∷◌, replicate, sym, refl, ap, ◌∙◌, inl, inr, ⊎_elim, arith}
+use Rattle.std.proofs.Common.{◌≡◌, ℕ, true, false, ◌||◌, List, [], ◌∷◌, replicate, sym, refl, ap, ◌∙◌, ⊎_elim, arith}
+use Rattle.std.proofs.lemmas.Bool.{or_cases}
 use Rattle.std.proofs.lemmas.Bool.Decides.{nat_tests}
+use Rattle.std.proofs.Math.Bool.{or-true, or-false}
 use Rattle.terms.specs.Cells.{kind, children, cell}
 use Rattle.terms.specs.Rows.{Row}
 use Rattle.terms.specs.Rows.Row.{none, node}
-use Rattle.verse.specs.Syntax.{Sort, admits, kids, children_of, Lawful, value_cell, expression_cell, plain}
+use Rattle.verse.specs.Syntax.{Sort, admits, kids, children_of, Lawful, expression_cell, plain}
 use Rattle.verse.specs.Syntax.Sort.{val, hnf, exp, equ}
 use Rattle.verse_terms.specs.Forms.{leaf, tupled, bound, applied, sequenced, equated, joined}
 
@@ -22,19 +24,6 @@ pub kids_of : (s : Sort) (c k : ℕ) → kind c ≡ k → kids s c ≡ children_
 unfolding kids
 kids_of s c k e = ap (λ n. children_of n (children c)) e
 
--- of one form or another
-pub either : (a b : Bool) → a || b ≡ true → (a ≡ true) ⊎ (b ≡ true)
-either true b h = inl refl
-either false b h = inr h
-
-or_true : (a : Bool) → a || true ≡ true
-or_true true = refl
-or_true false = refl
-
-or_false : (a : Bool) → a || false ≡ a
-or_false true = refl
-or_false false = refl
-
 plain_kids : (s : Sort) (k b n c : ℕ) → plain k b n c ≡ true → kids s c ≡ children_of k n
 plain_kids s k b n c h =
     let e : kind c ≡ k = grind (arith, nat_tests) in
@@ -42,15 +31,6 @@ plain_kids s k b n c h =
     kids_of s c k e ∙ ap (children_of k) f
 
 -- What each form's children are.
-no_kids : (k n : ℕ) → k ≤ 2 → children_of k n ≡ []
-no_kids zero n h = refl
-no_kids (suc zero) n h = refl
-no_kids (suc (suc zero)) n h = refl
-no_kids (suc (suc (suc k))) n h = absurd (omega arith)
-
-pub leaf_kids : (s : Sort) (c : ℕ) → leaf c ≡ true → kids s c ≡ []
-leaf_kids s c h = let k : kind c ≤ 2 = grind (arith, nat_tests) in kids_of s c (kind c) refl ∙ no_kids (kind c) (children c) k
-
 pub tuple_kids : (s : Sort) (c : ℕ) → tupled c ≡ true → kids s c ≡ replicate (children c) val
 tuple_kids s c h = let k : kind c ≡ 3 = grind (arith, nat_tests) in kids_of s c 3 k
 
@@ -69,27 +49,15 @@ equation_kids s c h = plain_kids s 7 0 2 c h
 pub joined_kids : (s : Sort) (c : ℕ) → joined c ≡ true → kids s c ≡ replicate (children c) exp
 joined_kids s c h =
     ⊎_elim (all_of 8 1 1 refl) (λ i. ⊎_elim (all_of 9 0 0 refl) (λ j. ⊎_elim (all_of 10 0 2 refl) (λ k. ⊎_elim (all_of 11 0 1 refl) (all_of 12 0 1 refl)
-    (either (plain 11 0 1 c) (plain 12 0 1 c) k))
-    (either (plain 10 0 2 c) (plain 11 0 1 c || plain 12 0 1 c) j))
-    (either (plain 9 0 0 c) (plain 10 0 2 c || (plain 11 0 1 c || plain 12 0 1 c)) i))
-    (either (plain 8 1 1 c) (plain 9 0 0 c || (plain 10 0 2 c || (plain 11 0 1 c || plain 12 0 1 c))) h)
+    (or_cases (plain 11 0 1 c) (plain 12 0 1 c) k))
+    (or_cases (plain 10 0 2 c) (plain 11 0 1 c || plain 12 0 1 c) j))
+    (or_cases (plain 9 0 0 c) (plain 10 0 2 c || (plain 11 0 1 c || plain 12 0 1 c)) i))
+    (or_cases (plain 8 1 1 c) (plain 9 0 0 c || (plain 10 0 2 c || (plain 11 0 1 c || plain 12 0 1 c))) h)
   where
     all_of : (k b n : ℕ) → children_of k n ≡ replicate n exp → plain k b n c ≡ true → kids s c ≡ replicate (children c) exp
     all_of k b n e p = let f : children c ≡ n = grind (arith, nat_tests) in plain_kids s k b n c p ∙ e ∙ ap (λ m. replicate m exp) (sym f)
 
 -- Which forms each sort admits.
-pub val_leaf : (c : ℕ) → leaf c ≡ true → admits val c ≡ true
-unfolding admits
-val_leaf c h = grind (arith, nat_tests)
-
-pub val_tuple : (c : ℕ) → tupled c ≡ true → admits val c ≡ true
-unfolding admits
-val_tuple c h = grind (arith, nat_tests)
-
-pub val_lambda : (c : ℕ) → bound c ≡ true → admits val c ≡ true
-unfolding admits
-val_lambda c h = grind (arith, nat_tests)
-
 pub val_else : (c : ℕ) → leaf c ≡ false → tupled c ≡ false → bound c ≡ false → admits val c ≡ false
 unfolding admits
 val_else c h i j = grind (arith, nat_tests)
@@ -102,22 +70,17 @@ pub exp_sequence : (c : ℕ) → sequenced c ≡ true → admits exp c ≡ true
 unfolding admits
 exp_sequence c h = grind (arith, nat_tests)
 
-pub exp_joined : (c : ℕ) → joined c ≡ true → admits exp c ≡ true
-unfolding admits
-exp_joined c h =
-    ap (λ b. value_cell c || (plain 5 0 2 c || (plain 6 0 2 c || b))) h ∙ ap (λ b. value_cell c || (plain 5 0 2 c || b)) (or_true (plain 6 0 2 c)) ∙ ap (λ b. value_cell c || b) (or_true (plain 5 0 2 c)) ∙ or_true (value_cell c)
-
 pub exp_else : (c : ℕ) → applied c ≡ false → sequenced c ≡ false → joined c ≡ false → admits exp c ≡ admits val c
 unfolding admits
 exp_else c h i j = grind (arith, nat_tests)
 
 pub equ_equation : (c : ℕ) → equated c ≡ true → admits equ c ≡ true
 unfolding admits
-equ_equation c h = ap (λ b. expression_cell c || b) h ∙ or_true (expression_cell c)
+equ_equation c h = ap (λ b. expression_cell c || b) h ∙ or-true (expression_cell c)
 
 pub equ_else : (c : ℕ) → equated c ≡ false → admits equ c ≡ admits exp c
 unfolding admits
-equ_else c h = ap (λ b. expression_cell c || b) h ∙ or_false (expression_cell c)
+equ_else c h = ap (λ b. expression_cell c || b) h ∙ or-false (expression_cell c)
 
 -- the children do not depend on the sort
 pub kids_alike : (s z : Sort) (c : ℕ) → kids s c ≡ kids z c

@@ -1,107 +1,45 @@
-// The kinds of cells, and the forms that a value, an expression and an equation begin with.
+// The forms of the cells that terms are made of, kind by kind.
 ghost use Rattle.std.specs.Prelude.{◌≡◌};
-ghost use Rattle.terms.specs.Cells.{form};
+ghost use Rattle.verse.specs.Kind.{number_of};
 ghost use Rattle.verse.specs.Syntax.{plain};
-ghost use Rattle.verse_terms.specs.Forms.{leaf, tupled, bound, applied, sequenced, equated, joined};
+ghost use Rattle.verse_terms.specs.Forms.{formed, Read};
 
-use terms::cell::{binder, children, kind, payload, zeros};
-
-pub const VARIABLE: u8 = 0;
-
-pub const INTEGER: u8 = 1;
-
-pub const OPERATOR: u8 = 2;
-
-pub const TUPLE: u8 = 3;
-
-pub const LAMBDA: u8 = 4;
-
-pub const APPLICATION: u8 = 5;
-
-pub const SEQUENCE: u8 = 6;
-
-pub const EQUATION: u8 = 7;
-
-pub const EXISTS: u8 = 8;
-
-pub const FAIL: u8 = 9;
-
-pub const CHOICE: u8 = 10;
-
-pub const ONE: u8 = 11;
-
-pub const ALL: u8 = 12;
+use terms::cell::{children, has_form, kind, payload};
+use verse::kind::Kind;
 
 // The largest payload of an operator, and the most parts of a tuple.
 const LAST_OPERATOR: u32 = 1;
 
 const PARTS_MOST: usize = 255;
 
-// Has the cell that kind, binder and number of children, and zero bits 0?
-fn has_form(c: u64, k: u8, b: u64, n: usize) -> bool
-    ensures { result ≡ form k b n c }
+// Has the cell that kind, binder and number of children, and all else 0?
+fn is_plain(c: u64, kind: Kind, binder: u64, children: usize) -> bool
+    ensures { result ≡ plain (number_of kind) binder children c }
 {
-    kind(c) == k && binder(c) == b && children(c) == n && zeros(c) == 0
+    has_form(c, kind as u8, binder, children) && payload(c) == 0
 }
 
-// And payload 0?
-fn is_plain(c: u64, k: u8, b: u64, n: usize) -> bool
-    ensures { result ≡ plain k b n c }
+// Is it a cell of the kind, as terms have it?
+pub fn is_formed(c: u64, kind: Kind) -> bool
+    ensures { result ≡ formed kind c }
 {
-    has_form(c, k, b, n) && payload(c) == 0
+    match kind {
+        Kind::Variable | Kind::Integer => has_form(c, kind as u8, 0, 0),
+        Kind::Operator => has_form(c, kind as u8, 0, 0) && payload(c) <= LAST_OPERATOR,
+        Kind::Tuple => is_plain(c, kind, 0, children(c)) && children(c) <= PARTS_MOST,
+        Kind::Fail => is_plain(c, kind, 0, 0),
+        Kind::Lambda | Kind::Exists => is_plain(c, kind, 1, 1),
+        Kind::One | Kind::All => is_plain(c, kind, 0, 1),
+        Kind::Application | Kind::Sequence | Kind::Equation | Kind::Choice => {
+            is_plain(c, kind, 0, 2)
+        }
+    }
 }
 
-// Is it a variable, an integer or an operator?
-pub fn is_leaf(c: u64) -> bool
-    ensures { result ≡ leaf c }
+// The kind of a cell of a term; none where no term has the cell.
+pub fn read(c: u64) -> Option<Kind>
+    ensures { Read c result }
 {
-    has_form(c, VARIABLE, 0, 0)
-        || has_form(c, INTEGER, 0, 0)
-        || has_form(c, OPERATOR, 0, 0) && payload(c) <= LAST_OPERATOR
-}
-
-// Is it a tuple?
-pub fn is_tuple(c: u64) -> bool
-    ensures { result ≡ tupled c }
-{
-    is_plain(c, TUPLE, 0, children(c)) && children(c) <= PARTS_MOST
-}
-
-// Is it a lambda?
-pub fn is_lambda(c: u64) -> bool
-    ensures { result ≡ bound c }
-{
-    is_plain(c, LAMBDA, 1, 1)
-}
-
-// Is it an application?
-pub fn is_application(c: u64) -> bool
-    ensures { result ≡ applied c }
-{
-    is_plain(c, APPLICATION, 0, 2)
-}
-
-// Is it a sequence?
-pub fn is_sequence(c: u64) -> bool
-    ensures { result ≡ sequenced c }
-{
-    is_plain(c, SEQUENCE, 0, 2)
-}
-
-// Is it an equation?
-pub fn is_equation(c: u64) -> bool
-    ensures { result ≡ equated c }
-{
-    is_plain(c, EQUATION, 0, 2)
-}
-
-// Is it an expression made of expressions only: an exists, a fail, a choice, a one or an all?
-pub fn is_joined(c: u64) -> bool
-    ensures { result ≡ joined c }
-{
-    is_plain(c, EXISTS, 1, 1)
-        || is_plain(c, FAIL, 0, 0)
-        || is_plain(c, CHOICE, 0, 2)
-        || is_plain(c, ONE, 0, 1)
-        || is_plain(c, ALL, 0, 1)
+    let kind = Kind::try_from(kind(c)).ok()?;
+    is_formed(c, kind).then_some(kind)
 }

@@ -5,3 +5,4 @@ pub mod form;
 pub mod free;
 pub mod judge;
 pub mod site;
+pub mod sort;

@@ -1,80 +1,59 @@
-use Rattle.std.proofs.Common.{◌≡◌, ◌-◌, ◌<◌, [], ◌∷◌, length, get_or, take, drop, refl, ap, ◌∙◌, subst, arith, rules}
-use Rattle.std.proofs.lemmas.Bool.Decides.{nat_tests}
-use Rattle.terms.specs.Cells.{kind}
+use Rattle.std.proofs.Common.{◌≡◌, ◌-◌, [], ◌∷◌, length, get_or, take, drop, sym, ap, ◌∙◌, subst, arith}
 use Rattle.terms.specs.Rows.{kind_of}
-use Rattle.terms.proofs.Steps.{moved}
 use Rattle.verse.specs.Contexts.{SC}
 use Rattle.verse.specs.Syntax.Sort.{exp}
-use Rattle.verse_terms.proofs.Parts.{rooted}
-use Rattle.verse_terms.proofs.Shapes.{choice_parts}
 use Rattle.verse_contexts.specs.Scopes.{Branched}
+use Rattle.verse_contexts.proofs.Heads.{kind_is, choice}
 use Rattle.verse_contexts.proofs.Walkings.{one_entry, no_entries}
 use Rattle.verse_contexts.proofs.Branches.{branch_none, branch_left, branch_right, branch_stray}
 use Rattle.verse_contexts.proofs.scope.+down_choices.Goals as goal
-use Rattle.verse_contexts.proofs.scope.+down_choices.Goals.{then-kind-ne-CHOICE-via-then-kind-ne-CHOICE, then-kind-ne-CHOICE-via-else-kind-ne-CHOICE+then-is_empty}
 
-pub offset_bounds-redex-at : goal.offset_bounds-redex-at
-offset_bounds-redex-at t c = let h = (rooted c.requires.2).here in omega arith
+pub returns-then-kind : goal.returns-then-kind
+returns-then-kind t c = λ u h s.
+    let k = kind_is exp c.in_ok-c.ensures h s in
+    let n : (kind_of u ≡ 10 → c.args.inner.now ≡ []) = λ e. absurd (c.if-kind.true (c.kind.ensures ∙ sym k ∙ e)) in
+    branch_none c.args.inner.now u c.args.expression.at n c.down_choice.result (c.down_choice.ensures u h s)
 
-pub bounds-redex-at : goal.bounds-redex-at
-bounds-redex-at t c = (rooted c.requires.2).here
+pub returns-in-empty : goal.returns-in-empty
+returns-in-empty t c = λ u h s.
+    branch_none c.args.inner.now u c.args.expression.at (λ e. no_entries c.args.inner.now (omega arith)) c.down_choice-in-empty.result (c.down_choice-in-empty.ensures u h s)
 
-pub returns-then-kind-ne-CHOICE : goal.returns-then-kind-ne-CHOICE
-returns-then-kind-ne-CHOICE t c = λ u h s.
-    let k = ap kind_of (rooted s).is in
-    let n : (kind_of u ≡ 10 → c.args.inner.now ≡ []) = λ e. elim c.then-kind-ne-CHOICE.branch [
-      | then-kind-ne-CHOICE-via-then-kind-ne-CHOICE w ↦ absurd (omega (arith, e, k, c.kind.ensures, w.if-kind-ne-CHOICE.true))
-      | then-kind-ne-CHOICE-via-else-kind-ne-CHOICE+then-is_empty w ↦ no_entries c.args.inner.now (grind (arith, nat_tests, w.is_empty.ensures, w.if-is_empty.true))
-    ] in
-    branch_none c.args.inner.now u c.args.at n c.down_choice.result (c.down_choice.ensures u h s)
+pub returns-in_err-first-in-0 : goal.returns-in_err-first-in-0
+returns-in_err-first-in-0 t c = λ u h s.
+    let q = choice exp c.in_ok-c.ensures h s (sym c.kind.ensures ∙ c.if-kind.false) in
+    absurd (omega (arith, q.count, c.in_err-first-in-0.ensures))
 
-pub overflow_add-at : goal.overflow_add-at
-overflow_add-at t c = let h = (rooted c.requires.2).here in omega arith
-
-pub down_choices-requires : goal.down_choices-requires
-down_choices-requires t c =
-    let k : kind (get_or c.args.redex.now c.args.at 0) ≡ 10 = omega (arith, c.kind.ensures) in
-    let p = choice_parts exp c.requires.2 c.requires.1 k in
-    (search rules, (p.a, p.left, p.first))
-
-pub overflow_add-at-in-1 : goal.overflow_add-at-in-1
-overflow_add-at-in-1 t c = let h = (rooted c.requires.2).here in omega arith
-
-pub end_of-requires : goal.end_of-requires
-end_of-requires t c =
-    let k : kind (get_or c.args.redex.now c.args.at 0) ≡ 10 = omega (arith, c.kind.ensures) in
-    let p = choice_parts exp c.requires.2 c.requires.1 k in
-    (p.a, p.first)
-
-pub down_choices-requires-in-1 : goal.down_choices-requires-in-1
-down_choices-requires-in-1 t c =
-    let k : kind (get_or c.args.redex.now c.args.at 0) ≡ 10 = omega (arith, c.kind.ensures) in
-    let p = choice_parts exp c.requires.2 c.requires.1 k in
-    (search rules, (p.b, p.right, moved p.second refl (c.end_of.ensures p.a p.first)))
-
-pub returns-in-0 : goal.returns-in-0
-returns-in-0 t c = λ u h s.
-    let k : kind (get_or c.args.redex.now c.args.at 0) ≡ 10 = omega (arith, c.kind.ensures) in
-    let p = choice_parts exp s h k in
+pub returns-in_ok-first-in-0 : goal.returns-in_ok-first-in-0
+returns-in_ok-first-in-0 t c = λ u h s.
+    let hd = c.in_ok-c.ensures in
+    let q = choice exp hd h s (sym c.kind.ensures ∙ c.if-kind.false) in
+    let f = c.in_ok-first-in-0.ensures in
+    let a = q.first c.in_ok-first-in-0.field-0 f in
     let i = c.args.inner.now in
-    let l : 0 < length c.args.inner.now = grind (arith, nat_tests) in
-    let z : get_or c.args.inner.now 0 0 ≡ 0 = omega arith in
-    branch_left i u c.args.at p.a p.b p.is p.left p.right (take (length i - 1) (drop 1 i)) (one_entry i l ∙ ap (λ j. j ∷ take (length i - 1) (drop 1 i)) z) c.down_choices.result (c.down_choices.ensures p.a p.left p.first)
+    let rest = take (length i - 1) (drop 1 i) in
+    let z : get_or i 0 0 ≡ 0 = omega arith in
+    branch_left i u c.args.expression.at q.a q.b q.is q.left q.right rest (one_entry i c.in-0.len_at_least ∙ ap (λ j. j ∷ rest) z) c.down_choices.result (subst (λ j. Branched SC rest q.a j c.down_choices.result) (f.1.start ∙ hd.2.start) (c.down_choices.ensures q.a q.left a))
 
-pub returns-in-1 : goal.returns-in-1
-returns-in-1 t c = λ u h s.
-    let k : kind (get_or c.args.redex.now c.args.at 0) ≡ 10 = omega (arith, c.kind.ensures) in
-    let p = choice_parts exp s h k in
+pub returns-in_err-second-in-1 : goal.returns-in_err-second-in-1
+returns-in_err-second-in-1 t c = λ u h s.
+    let q = choice exp c.in_ok-c.ensures h s (sym c.kind.ensures ∙ c.if-kind.false) in
+    absurd (omega (arith, q.count, c.in_err-second-in-1.ensures))
+
+pub returns-in_ok-second-in-1 : goal.returns-in_ok-second-in-1
+returns-in_ok-second-in-1 t c = λ u h s.
+    let hd = c.in_ok-c.ensures in
+    let q = choice exp hd h s (sym c.kind.ensures ∙ c.if-kind.false) in
+    let f = c.in_ok-second-in-1.ensures in
+    let b = q.second c.in_ok-second-in-1.field-0 f in
+    let e = q.after c.in_ok-second-in-1.field-0 f in
     let i = c.args.inner.now in
-    let l : 0 < length c.args.inner.now = grind (arith, nat_tests) in
-    let z : get_or c.args.inner.now 0 0 ≡ 1 = omega arith in
-    let e = c.end_of.ensures p.a p.first in
-    branch_right i u c.args.at p.a p.b p.is p.left p.right (take (length i - 1) (drop 1 i)) (one_entry i l ∙ ap (λ j. j ∷ take (length i - 1) (drop 1 i)) z) c.down_choices-in-1.result (subst (λ j. Branched SC (take (length i - 1) (drop 1 i)) p.b j c.down_choices-in-1.result) e (c.down_choices-in-1.ensures p.b p.right (moved p.second refl e)))
+    let rest = take (length i - 1) (drop 1 i) in
+    let z : get_or i 0 0 ≡ 1 = omega arith in
+    branch_right i u c.args.expression.at q.a q.b q.is q.left q.right rest (one_entry i c.in-1.len_at_least ∙ ap (λ j. j ∷ rest) z) c.down_choices-in-1.result (subst (λ j. Branched SC rest q.b j c.down_choices-in-1.result) (omega (arith, e, hd.2.start)) (c.down_choices-in-1.ensures q.b q.right b))
 
 pub returns-in_default : goal.returns-in_default
 returns-in_default t c = λ u h s.
-    let k : kind (get_or c.args.redex.now c.args.at 0) ≡ 10 = omega (arith, c.kind.ensures) in
-    let p = choice_parts exp s h k in
+    let q = choice exp c.in_ok-c.ensures h s (sym c.kind.ensures ∙ c.if-kind.false) in
     let i = c.args.inner.now in
-    let l : 0 < length c.args.inner.now = grind (arith, nat_tests) in
-    branch_stray i u c.args.at p.a p.b p.is p.left p.right (get_or i 0 0) (take (length i - 1) (drop 1 i)) (one_entry i l) (omega arith)
+    let rest = take (length i - 1) (drop 1 i) in
+    branch_stray i u c.args.expression.at q.a q.b q.is q.left q.right (get_or i 0 0) rest (one_entry i (omega arith)) (omega arith)

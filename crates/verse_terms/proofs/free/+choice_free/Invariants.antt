@@ -2,7 +2,7 @@ use Rattle.std.proofs.Common.{◌+◌, ◌-◌, ◌*◌, length}
 use Rattle.verse_terms.proofs.free.+choice_free.Given as goal
 
 abbrev pub decreases-is_choice_free : goal.decreases-is_choice_free
-decreases-is_choice_free l = 2 * (length l.cells.now - l.at) + 1
+decreases-is_choice_free l = 2 * (length l.trees.cells.now - l.trees.at)
 
 abbrev pub decreases-is_tree_free : goal.decreases-is_tree_free
-decreases-is_tree_free l = 2 * (length l.cells.now - l.at)
+decreases-is_tree_free l = 2 * (length l.below.cells.now - l.below.at) + 1

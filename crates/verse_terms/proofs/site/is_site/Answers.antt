@@ -1,6 +1,5 @@
-use Rattle.std.proofs.Common.{get_or, ap, ◌∙◌, arith}
+use Rattle.std.proofs.Common.{arith}
 use Rattle.terms.proofs.Deciding.{fails}
-use Rattle.verse_terms.specs.Sorts.{child_sort}
 use Rattle.verse_terms.proofs.Sites.{gone_none, gone_more, gone_astray, gone_all}
 use Rattle.verse_terms.proofs.site.is_site.Goals as goal
 
@@ -11,7 +10,7 @@ pub returns-in_default : goal.returns-in_default
 returns-in_default c = λ t h e. fails (gone_astray _ _ t _ _ _ (c.loop-entry.invariant t h e) (omega arith) c.in_default.ensures)
 
 pub loop-entry-preserved : goal.loop-entry-preserved
-loop-entry-preserved c = λ t h e. gone_more _ _ t _ _ _ (c.loop-entry.invariant t h e) (omega arith) _ _ c.in-Some.ensures (c.child_sort-sort.ensures ∙ ap (λ k. child_sort k (get_or c.args.place.now c.loop-entry.entry-index 0)) c.kind.ensures)
+loop-entry-preserved c = λ t h e. gone_more _ _ t _ _ _ (c.loop-entry.invariant t h e) (omega arith) _ _ c.in-Some.ensures c.child_sort-sort.ensures
 
 pub returns : goal.returns
-returns c = λ t h e. gone_all _ _ t _ _ _ _ (c.loop-entry.invariant t h e) (omega arith) c.is_called.ensures
+returns c = λ t h e. gone_all _ _ t _ _ _ _ (c.loop-entry.invariant t h e) (omega arith) c.is_site.ensures
