@@ -1,5 +1,5 @@
 use Rattle.std.proofs.Common.{arith}
-use Rattle.terms.proofs.Judgings.{exit_whole, refused_rest, fills}
+use Rattle.terms.proofs.Judgings.{exit_whole, refused_rest}
 use Rattle.verse.specs.Syntax.{admits, kids}
 use Rattle.verse_terms.proofs.judge.judge.Goals as goal
 
@@ -8,6 +8,3 @@ returns-in_err-end c = exit_whole admits kids _ _ _ _ c.from_residual.ensures.1 
 
 pub returns-then-end-cells : goal.returns-then-end-cells
 returns-then-end-cells c = refused_rest admits kids _ _ _ _ c.in_ok-end.ensures (omega arith)
-
-pub returns : goal.returns
-returns c = fills admits kids _ _ _ _ c.in_ok-end.ensures (omega arith)
