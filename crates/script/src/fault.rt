@@ -46,7 +46,7 @@ impl From<AllocError> for Bad {
     ghost from_gives = { λ _ e. e ≡ Memory };
 
     fn from(_: AllocError) -> Bad {
-        Bad::Memory
+        Self::Memory
     }
 }
 
