@@ -2,9 +2,14 @@
 #![tactic(auto)]
 
 use calculus::Calculus;
+use calculus::no::No;
 use rewriting::LetRewriting;
+use rewriting::redex::LET_CELL as LET;
+use rewriting::rule::Rule;
+use std::alloc::Global;
+use std::fmt;
 
-// Constructor 1 over two, function 3, marked function 3, function 4 over one, a let, and a program rule.
+// Constructor 1 over two, function 3, marked function 3, function 4 over one, and a program rule.
 const PAIR: u64 = (32 << 58) + (2 << 48) + 1;
 
 const HEAVY: u64 = (33 << 58) + 3;
@@ -13,171 +18,151 @@ const LIGHT: u64 = (34 << 58) + 3;
 
 const SHARE: u64 = (33 << 58) + (1 << 48) + 4;
 
-const LET: u64 = (35 << 58) + (1 << 57) + (2 << 48);
-
 const ARROW: u64 = (36 << 58) + (2 << 48);
 
-// Prints what a step answers with so many cells of space.
-fn show(
-    rt: &HostRuntime,
-    name: &str,
-    lets: &LetRewriting,
+// A step to be asked for with so many cells of space.
+#[derive(Clone, Copy)]
+struct Question<'q> {
+    name: &'q str,
     rule: u8,
     argument: u8,
-    inner: &[u8],
-    redex: &[u64],
+    inner: &'q [u8],
+    redex: &'q [u64],
     room: usize,
-) -> anyhow::Result<()> {
-    let mut space = vec![in rt.alloc(); 0; room]?;
-    match lets.step(rule, argument, inner, redex, &mut space) {
-        Ok(n) => println!(rt; "{name}: gives {n} cells")?,
-        Err(no) => {
-            let number = no.number();
-            println!(rt; "{name}: {number}")?
+}
+
+impl<'q> Question<'q> {
+    // With argument 0, no inner place and eight cells of space.
+    fn plain(name: &'q str, rule: u8, redex: &'q [u64]) -> Question<'q> {
+        Question {
+            name,
+            rule,
+            argument: 0,
+            inner: &[],
+            redex,
+            room: 8,
         }
+    }
+}
+
+// What a step answers.
+#[derive(Clone, Copy)]
+struct Answer(Result<usize, No>);
+
+impl fmt::Display for Answer {
+    fn fmt<W: fmt::Write>(&self, f: &mut fmt::Formatter<W>) -> fmt::Result {
+        match self.0 {
+            Ok(n) => write!(f, "gives {n} cells"),
+            Err(no) => write!(f, "{}", no.number()),
+        }
+    }
+}
+
+// Asks for each step and prints its answer.
+fn ask(
+    rt: &impl Print,
+    alloc: Global,
+    lets: &LetRewriting,
+    questions: &[Question],
+) -> anyhow::Result<()> {
+    for q in questions {
+        let mut space = vec![in alloc; 0; q.room]?;
+        let answer = Answer(lets.step(q.rule, q.argument, q.inner, q.redex, &mut space));
+        println!(rt; "{}: {answer}", q.name)?;
     }
     Ok(())
 }
 
-fn good(rt: &HostRuntime, lets: &LetRewriting) -> anyhow::Result<()> {
-    show(rt, "Fapp", lets, 1, 0, &[], &[SHARE, 7], 8)?;
-    show(rt, "LetIn", lets, 2, 1, &[], &[PAIR, 7, HEAVY], 8)?;
-    show(
-        rt,
-        "Bind of a marked function",
-        lets,
-        3,
-        0,
-        &[],
-        &[LET, LIGHT, PAIR, 0, 0],
-        8,
-    )?;
-    show(rt, "Elim", lets, 4, 0, &[], &[LET, HEAVY, 6], 8)?;
-    show(
-        rt,
-        "Flat",
-        lets,
-        5,
-        0,
-        &[],
-        &[LET, LET, HEAVY, 0, PAIR, 0, 6],
-        8,
-    )
+fn good(rt: &impl Print, alloc: Global, lets: &LetRewriting) -> anyhow::Result<()> {
+    let let_in = Question::plain("LetIn", Rule::LetIn as u8, &[PAIR, 7, HEAVY]);
+    let questions = [
+        Question::plain("Fapp", Rule::Fapp as u8, &[SHARE, 7]),
+        Question {
+            argument: 1,
+            ..let_in
+        },
+        Question::plain(
+            "Bind of a marked function",
+            Rule::Bind as u8,
+            &[LET, LIGHT, PAIR, 0, 0],
+        ),
+        Question::plain("Elim", Rule::Elim as u8, &[LET, HEAVY, 6]),
+        Question::plain("Flat", Rule::Flat as u8, &[LET, LET, HEAVY, 0, PAIR, 0, 6]),
+    ];
+    ask(rt, alloc, lets, &questions)
 }
 
 // Rules, arguments and inner places that no rule uses so.
-fn bad_questions(rt: &HostRuntime, lets: &LetRewriting) -> anyhow::Result<()> {
+fn bad_questions(rt: &impl Print, alloc: Global, lets: &LetRewriting) -> anyhow::Result<()> {
     let redex = [LET, HEAVY, PAIR, 0, 0];
-    let long = [0; 511];
-    show(rt, "Bind of a function", lets, 3, 0, &[], &redex, 8)?;
-    show(rt, "rule 0", lets, 0, 0, &[], &redex, 8)?;
-    show(rt, "rule 63", lets, 63, 0, &[], &redex, 8)?;
-    show(
-        rt,
-        "an inner place of 511 entries",
-        lets,
-        4,
-        0,
-        &long,
-        &redex,
-        8,
-    )?;
-    show(
-        rt,
-        "Fapp by program rule 255",
-        lets,
-        1,
-        255,
-        &[],
-        &[SHARE, 7],
-        8,
-    )?;
-    show(
-        rt,
-        "LetIn of child 255",
-        lets,
-        2,
-        255,
-        &[],
-        &[PAIR, 7, HEAVY],
-        8,
-    )?;
-    show(rt, "Bind with argument 255", lets, 3, 255, &[], &redex, 8)
+    let of = |name, rule| Question::plain(name, rule, &redex);
+    let questions = [
+        of("Bind of a function", Rule::Bind as u8),
+        of("rule 0", 0),
+        of("rule 63", 63),
+        Question {
+            inner: &[0; 511],
+            ..of("an inner place of 511 entries", Rule::Elim as u8)
+        },
+        Question {
+            argument: 255,
+            redex: &[SHARE, 7],
+            ..of("Fapp by program rule 255", Rule::Fapp as u8)
+        },
+        Question {
+            argument: 255,
+            redex: &[PAIR, 7, HEAVY],
+            ..of("LetIn of child 255", Rule::LetIn as u8)
+        },
+        Question {
+            argument: 255,
+            ..of("Bind with argument 255", Rule::Bind as u8)
+        },
+    ];
+    ask(rt, alloc, lets, &questions)
 }
 
 // Cells that are no redex, and too little space.
-fn bad_cells(rt: &HostRuntime, lets: &LetRewriting) -> anyhow::Result<()> {
-    show(rt, "no cells", lets, 3, 0, &[], &[], 8)?;
-    show(rt, "a let cut off", lets, 3, 0, &[], &[LET, HEAVY], 8)?;
-    show(
-        rt,
-        "a cell too many",
-        lets,
-        4,
-        0,
-        &[],
-        &[LET, HEAVY, 6, 6],
-        8,
-    )?;
-    show(
-        rt,
-        "payload 65,535",
-        lets,
-        4,
-        0,
-        &[],
-        &[LET, HEAVY, 65_535],
-        8,
-    )?;
-    show(
-        rt,
-        "payload 65,536",
-        lets,
-        4,
-        0,
-        &[],
-        &[LET, HEAVY, 65_536],
-        8,
-    )?;
-    show(rt, "no space", lets, 4, 0, &[], &[LET, HEAVY, 6], 0)?;
-    show(
-        rt,
-        "a cell of space too few",
-        lets,
-        2,
-        1,
-        &[],
-        &[PAIR, 7, HEAVY],
-        4,
-    )
+fn bad_cells(rt: &impl Print, alloc: Global, lets: &LetRewriting) -> anyhow::Result<()> {
+    let elim = Rule::Elim as u8;
+    let questions = [
+        Question::plain("no cells", Rule::Bind as u8, &[]),
+        Question::plain("a let cut off", Rule::Bind as u8, &[LET, HEAVY]),
+        Question::plain("a cell too many", elim, &[LET, HEAVY, 6, 6]),
+        Question::plain("payload 65,535", elim, &[LET, HEAVY, 65_535]),
+        Question::plain("payload 65,536", elim, &[LET, HEAVY, 65_536]),
+        Question {
+            room: 0,
+            ..Question::plain("no space", elim, &[LET, HEAVY, 6])
+        },
+        Question {
+            argument: 1,
+            room: 4,
+            ..Question::plain(
+                "a cell of space too few",
+                Rule::LetIn as u8,
+                &[PAIR, 7, HEAVY],
+            )
+        },
+    ];
+    ask(rt, alloc, lets, &questions)
 }
 
 fn main(rt: HostRuntime) -> anyhow::Result<()> {
+    let alloc = rt.alloc();
     let program = [ARROW, SHARE, 0, LET, HEAVY, PAIR, 1, 0];
-    let lets = LetRewriting::new(program.to_vec(rt.alloc())?);
-    good(&rt, &lets)?;
-    bad_questions(&rt, &lets)?;
-    bad_cells(&rt, &lets)?;
-    let none = LetRewriting::new(Vec::new(rt.alloc()));
-    show(
+    let lets = LetRewriting::new(program.to_vec(alloc)?);
+    good(&rt, alloc, &lets)?;
+    bad_questions(&rt, alloc, &lets)?;
+    bad_cells(&rt, alloc, &lets)?;
+    let fapp = |name| [Question::plain(name, Rule::Fapp as u8, &[SHARE, 7])];
+    let none = LetRewriting::new(Vec::new(alloc));
+    ask(&rt, alloc, &none, &fapp("Fapp over the empty program"))?;
+    let refused = LetRewriting::new([ARROW, SHARE, 0, 1].to_vec(alloc)?);
+    ask(
         &rt,
-        "Fapp over the empty program",
-        &none,
-        1,
-        0,
-        &[],
-        &[SHARE, 7],
-        8,
-    )?;
-    let refused = LetRewriting::new([ARROW, SHARE, 0, 1].to_vec(rt.alloc())?);
-    show(
-        &rt,
-        "Fapp over a program that is refused",
+        alloc,
         &refused,
-        1,
-        0,
-        &[],
-        &[SHARE, 7],
-        8,
+        &fapp("Fapp over a program that is refused"),
     )
 }

@@ -72,14 +72,8 @@ module _ {t : Row} {at : ℕ} {cells : List ℕ} (s : TermAt t cells at) (l : Le
         stands = moved (stands_right l.a l.e (kids_here _ _ let_stands)) (sym (one_wide l.e l.letters.1)) e;
       }
 
-  pub let_cell : get_or cells at 0 ≡ cell 35 1 2 0
-  let_cell = sym (cell_here _ _ let_stands)
-
   pub let_size : size t ≡ suc (size l.a + size l.e)
   let_size = omega (arith, ap size l.is, size-& l.a l.e)
-
-  pub let_within : at + size t ≤ length cells
-  let_within = subst (λ u. at + size u ≤ length cells) (sym l.is) (tree_within _ _ let_stands)
 
 -- a let of a let, and what is none
 pub lets_of : {t : Row} (l : Let t) → Let l.a → Lets t
@@ -101,10 +95,6 @@ lets_outer q =
       letters = ((refl, beside term (term ∷ []) q.a q.b q.letters.0 q.letters.1, tt), q.letters.2);
       is = q.is;
     }
-
-pub lets_inner : {t : Row} (l : Let t) → Lets t → Let l.a
-unfolding lets_outer
-lets_inner l q = record { a = q.a; e = q.b; letters = (q.letters.0, q.letters.1); is = (let_same l (lets_outer q)).0 }
 
 -- the three parts of a let of a let, by their cells
 pub record Flattened (t : Row) (a b e : List ℕ) : Type 0 where

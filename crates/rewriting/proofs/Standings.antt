@@ -69,11 +69,6 @@ kind_here none s = absurd s.lawful
 kind_here (node c ks (node d js r)) s = absurd s.lawful.2
 kind_here (node c ks none) s = ap kind (cell_here c ks s.stands)
 
-pub term_here : (t : Row) {at : ℕ} {cells : List ℕ} → TermAt t cells at → at + 1 ≤ length cells
-term_here none s = absurd s.lawful
-term_here (node c ks (node d js r)) s = absurd s.lawful.2
-term_here (node c ks none) s = omega (arith, tree_within c ks s.stands)
-
 -- one tree has a cell
 pub tree_here : {t : Row} {at : ℕ} {cells : List ℕ} → Stands t 1 cells at → at < length cells
 tree_here {t} s = let o = opened t s (λ e. omega arith) in omega (arith, o.within, o.sized)

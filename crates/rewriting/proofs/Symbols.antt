@@ -107,36 +107,3 @@ module _ {t : Row} {n at : ℕ} {cells : List ℕ} (s : TermAt t cells at) (l : 
 
   pub carries_size : size t ≡ suc (size l.before + (size l.e + size l.after))
   carries_size = omega (arith, ap size l.is, size-& l.before (l.e & l.after), size-& l.e l.after)
-
--- all of it, of a symbol that fills its cells
-pub record Placed (n : ℕ) (t : Row) (cells : List ℕ) (start end : ℕ) : Type 0 where
-  pub carries : Carries n t
-  pub left : Stands carries.before n cells 1
-  pub child : TermAt carries.e cells start
-  pub right : Stands carries.after (width carries.after) cells end
-  pub start_is : start ≡ 1 + size carries.before
-  pub end_is : end ≡ start + size carries.e
-  pub some : 1 ≤ size carries.e
-  pub count_is : length cells ≡ end + size carries.after
-  pub children_is : children (get_or cells 0 0) ≡ n + suc (width carries.after)
-  pub head_is : carries.h ≡ get_or cells 0 0
-
-some_size : (t : Row) → Term t → 1 ≤ size t
-some_size none h = absurd h
-some_size (node c ks r) h = omega arith
-
-pub placed : {n : ℕ} {t : Row} {cells : List ℕ} {start end : ℕ} → TermAt t cells 0 → size t ≡ length cells → (l : Carries n t) → start ≡ 1 + size l.before → end ≡ start + size l.e → Placed n t cells start end
-placed {n} {t} {cells} {start} {end} s z l e f =
-    let k = carries_size s l in
-    record {
-      carries = l;
-      left = before_at s l;
-      child = child_at s l start e;
-      right = after_at s l start end (width l.after) e f refl;
-      start_is = e;
-      end_is = f;
-      some = some_size l.e l.letters.1;
-      count_is = omega arith;
-      children_is = head_children s l;
-      head_is = head_here s l;
-    }

@@ -11,9 +11,6 @@ use Rattle.rewriting.proofs.LetRewriting.call_rule.Goals.{After-unwrap-start}
 found : (c : goal.After-unwrap-start) → RuleStands c.args.self.now.rules.cells.items c.args.argument c.unwrap-start.result.0 c.unwrap-start.result.1
 found c = subst (RuleAsked c.args.self.now.rules.cells.items c.args.argument) c.unwrap-start.ensures c.rule.ensures
 
-pub unwrap-start-requires : goal.unwrap-start-requires
-unwrap-start-requires c = there_rule _ _ _ c.rule.ensures c.requires
-
 pub slice_bounds-call-end : goal.slice_bounds-call-end
 slice_bounds-call-end c =
     let s = found (goal.at.slice_bounds-call-end c).After-unwrap-start in

@@ -11,12 +11,6 @@ use Rattle.rewriting.proofs.Redexes.{spelling}
 use Rattle.rewriting.proofs.Steps.{wrote_row}
 use Rattle.rewriting.proofs.elim.eliminate.Goals as goal
 
-pub returns-then-is_some : goal.returns-then-is_some
-returns-then-is_some c = λ t h e.
-    let p = c.in_ok-body.ensures t (h, e) in
-    let f = found_free 0 0 0 p.0.e _ _ (c.occurs.ensures p.0.e (c.trees.ensures p.0.e (p.0.letters.1, p.2))) c.if-is_some.ensures in
-    (refl, (p.0, λ l no. no (subst (Free 0) (let_same p.0 l).1 f)))
-
 pub returns-then-body-space : goal.returns-then-body-space
 returns-then-body-space c = λ t h e.
     let p = c.in_ok-body.ensures t (h, e) in

@@ -41,9 +41,6 @@ returns-then-not-calls c = λ program argument o t h e.
     let s = spelled t h e in
     (refl, λ l. not_from_Decides _ c.calls.ensures c.if-not-calls.true (subst (λ h. ((kind h ≡ 33) ⊎ (kind h ≡ 34)) × (payload h ≡ payload (get_or c.args.rule.now 1 0)) × (children h ≡ children (get_or c.args.rule.now 1 0))) (sym c.head.ensures) (calls_head s q program argument refl l)))
 
-pub bounds-rule-1 : goal.bounds-rule-1
-bounds-rule-1 c = let g = c.requires in let w = rule_long g.lawful g.reads in omega arith
-
 pub invariant_of-left : goal.invariant_of-left
 invariant_of-left c = let g = c.requires in record { standing = ∣ (_, left_at g.lawful g.reads) ∣₁ }
 

@@ -9,9 +9,6 @@ use Rattle.rewriting.proofs.redex.Redex.as_let.Goals.{Else-kind}
 is_let : (c : goal.Else-kind) → kind (get_or c.args.self.cells.now 0 0) ≡ 35
 is_let c = sym (c.kind.ensures ∙ ap kind c.head.ensures) ∙ c.if-kind.false
 
-pub returns-then-kind : goal.returns-then-kind
-returns-then-kind c = λ t h. (refl, here_other t (spelled t h.0 h.1) (λ k. c.if-kind.true (c.kind.ensures ∙ ap kind c.head.ensures ∙ k)))
-
 pub invariant_of-bound : goal.invariant_of-bound
 invariant_of-bound c =
     let s = spelling c.args.self.lawful in

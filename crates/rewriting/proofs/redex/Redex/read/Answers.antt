@@ -3,9 +3,6 @@ use Rattle.std.proofs.lemmas.Bool.Decides.{not_from_Decides}
 use Rattle.rewriting.proofs.Askings.{redex_spells}
 use Rattle.rewriting.proofs.redex.Redex.read.Goals as goal
 
-pub returns-then-not-is_redex : goal.returns-then-not-is_redex
-returns-then-not-is_redex c = (refl, not_from_Decides _ c.is_redex.ensures c.if-not-is_redex.true)
-
 pub invariant_of-result : goal.invariant_of-result
 invariant_of-result c = record { lawful = ∣ redex_spells _ (c.is_redex.ensures.0 c.if-not-is_redex.false) ∣₁ }
 
