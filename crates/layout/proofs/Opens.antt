@@ -75,9 +75,6 @@ nearest walk w p up is e o =
     subst (λ v. Stands v p up) (ap (λ i. get_or walk i blank) n ∙ is) o.0
 
 -- the binders above the coming cell, as the nearest record has them
-pub none_above : (up : List Parent) → 0 ≡ length up → 0 ≡ binders up
-none_above up e = let h = binders_le up in omega arith
-
 pub last_above : (walk : List Walk) (w : Walk) (up : List Parent) → get_or walk (length walk - 1) blank ≡ w → length walk ≡ length up → 0 < length walk → Holds walk up → w.left ≡ 1 → w.last ≡ binders up
 last_above walk w [] is e l o h = absurd (omega arith)
 last_above walk w (p ∷ up) is e l o h = binders_last w p up (nearest walk w p up is e o) h

@@ -25,13 +25,7 @@ abbrev pub Holds : List Walk → List Parent → Type 0
 Holds walk [] = Unit {0}
 Holds walk (p ∷ up) = Stands (slice_index_or walk (length up) blank) p up × Holds walk up
 
--- the first records are those of so many cells above the coming cell
-pub record Held (walk : List Walk) (height : ℕ) : Type 0 where
-  pub up : List Parent
-  pub high : height ≡ length up
-  pub holds : Holds walk up
-
--- the same of the cell that follows, if one does
+-- the first records are those of the cells above the cell that follows, if one does
 abbrev pub Follows : List Walk → Option (List Parent) → Option ℕ → Type 0
 Follows walk (Some up) (Some height) = (height ≡ length up) × Holds walk up
 Follows walk (Some up) None = ⊥

@@ -9,7 +9,7 @@ ghost use Rattle.terms.specs.Cells.{children, Fields};
 ghost use Rattle.terms.specs.Layout.{Parent, onward, next, binders, LayoutJudged};
 
 use std::alloc::AllocError;
-use terms::cell::{binder, children, kind, payload, zeros};
+use terms::cell::{VARIABLE, binder, children, kind, payload, zeros};
 
 // The most cells of a term.
 pub const CELLS_MOST: usize = 2048;
@@ -140,7 +140,7 @@ fn deepened(deepest: usize, height: usize) -> usize
 fn is_good(c: u64, above: u16) -> bool
     ensures { Decides result (Good c above) }
 {
-    has_good_fields(c) && (kind(c) != 0 || payload(c) < above as u32 + FREE_MOST)
+    has_good_fields(c) && (kind(c) != VARIABLE || payload(c) < above as u32 + FREE_MOST)
 }
 
 // Are the zero bits 0, has a binder bit a child, and a variable neither?
@@ -149,7 +149,7 @@ fn has_good_fields(c: u64) -> bool
 {
     zeros(c) == 0
         && (binder(c) == 0 || children(c) > 0)
-        && (kind(c) != 0 || binder(c) == 0 && children(c) == 0)
+        && (kind(c) != VARIABLE || binder(c) == 0 && children(c) == 0)
 }
 
 #[cfg(test)]

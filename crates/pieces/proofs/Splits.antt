@@ -1,16 +1,15 @@
 -- A tree that fills the cells of a part, and its children. Assumes nothing.
-use Rattle.std.proofs.Common.{◌≡◌, ℕ, ◌+◌, Bool, true, false, eqb, ◌&&◌, List, [], ◌∷◌, ◌++◌, length, take, drop, Some, None, Decides, Option, slice_get, sym, refl, ap, ◌∙◌, subst, append-nil, arith}
-use lib.Pointwise.{pointwise}
+use Rattle.std.proofs.Common.{◌≡◌, ℕ, ◌+◌, true, false, eqb, List, [], ◌∷◌, ◌++◌, length, take, drop, Some, None, Decides, Option, slice_get, sym, refl, ap, ◌∙◌, append-nil, take-append-drop, arith}
+use lib.Pointwise.{pointwise, bytes_decides}
 use Rattle.std.specs.Borrow.{Bor}
-use Rattle.std.specs.Option.{option_eq, MatchOption}
-use Rattle.std.proofs.lemmas.Bool.{eqb-true, eq-eqb, false≢true}
+use Rattle.std.specs.Option.{MatchOption}
+use Rattle.std.proofs.lemmas.Bool.{false≢true}
 use Rattle.std.proofs.lemmas.List.{take_at, drop_at}
 use Rattle.terms.specs.Cells.{children}
 use Rattle.terms.specs.Rows.{Row, flat, size, width, Counted, ◌&◌}
 use Rattle.terms.specs.Rows.Row.{none, node}
 use Rattle.terms.specs.Standing.{Stands, Ends}
 use Rattle.terms.specs.Terms.{TreeOf}
-use Rattle.terms.proofs.Inject.{top, empty}
 use Rattle.terms.proofs.Trees.{flat_size, flat-&}
 use Rattle.terms.proofs.Standings.{stands_same}
 use Rattle.pieces.specs.Parts.{Topped, Single}
@@ -45,29 +44,23 @@ topped (node d ks none) cells r s e = rw (e, ← s.reads) (ks, refl)
 
 -- is the first cell that one?
 starts : (cells : List ℕ) (c : ℕ) → pointwise eqb (take 1 cells) (c ∷ []) ≡ true → cells ≡ c ∷ drop 1 cells
-starts [] c h = absurd (false≢true h)
-starts (x ∷ xs) c h = ap (λ y. y ∷ xs) (eqb-true x c (first (eqb x c) h))
-  where
-    first : (b : Bool) → b && true ≡ true → b ≡ true
-    first true h = refl
-    first false h = h
+starts cells c h = sym (take-append-drop 1 cells) ∙ ap (λ l. l ++ drop 1 cells) ((bytes_decides (take 1 cells) (c ∷ [])).0 h)
 
 other : (cells xs : List ℕ) (c : ℕ) → pointwise eqb (take 1 cells) (c ∷ []) ≡ false → cells ≡ c ∷ xs → ⊥
-other [] xs c h e = absurd (omega (arith, ap length e))
-other (x ∷ ys) xs c h e =
-    let i : x ≡ c = cc e in
-    false≢true (sym h ∙ ap (λ b. b && true) (eq-eqb x c i))
+other cells xs c h e = false≢true (sym h ∙ (bytes_decides (take 1 cells) (c ∷ [])).1 (ap (take 1) e))
 
 -- that cell alone
-pub alone : (t : Row) (c : ℕ) (cells : List ℕ) (o : Option ℕ) → TreeOf cells t → children c ≡ 0 → Topped t o → Decides (option_eq eqb o (Some c)) (t ≡ node c none none)
-alone t c cells None s h n = absurd n
-alone t c cells (Some x) s h (ks, e) = (there, λ k. eq-eqb x c (ap top (sym e ∙ k)))
-  where
-    there : eqb x c ≡ true → t ≡ node c none none
-    there k =
-        let i = eqb-true x c k in
-        let g = subst Counted e s.counted in
-        e ∙ ap (λ d. node d ks none) i ∙ ap (λ r. node c r none) (empty ks (sym g.1 ∙ ap children i ∙ h))
+no_cells : (ks : Row) → flat ks ≡ [] → ks ≡ none
+no_cells none e = refl
+no_cells (node c ks r) e = cc e
+
+pub alone : (t : Row) (c : ℕ) (cells : List ℕ) → TreeOf cells t → Decides (pointwise eqb cells (c ∷ [])) (t ≡ node c none none)
+alone t c cells s = (
+  λ h.
+      let p = split t c [] cells s ((bytes_decides cells (c ∷ [])).0 h) in
+      p.is ∙ ap (λ r. node c r none) (no_cells p.ks p.reads),
+  λ e. (bytes_decides cells (c ∷ [])).1 (sym s.reads ∙ ap flat e),
+)
 
 -- two trees side by side
 record Pair (ks : Row) : Type 0 where

@@ -18,10 +18,9 @@ pub fn top(part: &[u64]) -> Option<u64>
 
 // Is the part that cell alone?
 pub fn is(part: &[u64], cell: u64) -> bool
-    requires { children cell ≡ 0 }
     ensures { (t : Row) → TreeOf part.now t → Decides result (t ≡ node cell none none) }
 {
-    top(part) == Some(cell)
+    part == [cell].as_slice()
 }
 
 // The only child of that cell, if the part is such a one.

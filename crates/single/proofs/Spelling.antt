@@ -1,6 +1,6 @@
 -- The cells that bytes spell, and a wrong cell among the first of them. Assumes nothing.
-use Rattle.std.proofs.Common.{◌≡◌, ℕ, zero, suc, ◌+◌, ◌*◌, ◌/◌, ◌^◌, ◌<◌, ◌≤◌, Bool, true, false, ltb, List, [], ◌∷◌, ◌++◌, length, get_or, take, drop, Some, Ok, Err, sym, refl, ap, ◌∙◌, subst, inl, inr, append_assoc, append-nil, arith, length-append, length-drop, take-append-drop}
-use Rattle.std.proofs.lemmas.List.{take-append-le, take_all, get_or-drop, get_or_append_left, length-take-le}
+use Rattle.std.proofs.Common.{◌≡◌, ℕ, zero, suc, ◌+◌, ◌*◌, ◌/◌, ◌^◌, ◌<◌, ◌≤◌, Bool, true, false, ltb, List, [], ◌∷◌, ◌++◌, length, get_or, take, drop, Some, Ok, Err, sym, refl, ap, ◌∙◌, subst, inl, inr, append_assoc, arith, length-append, length-drop, take-append-drop}
+use Rattle.std.proofs.lemmas.List.{take-append-le, get_or-drop, get_or_append_left, length-take-le}
 use Rattle.std.proofs.lemmas.Bool.Decides.{nat_tests}
 use Rattle.terms.specs.Terms.{Laid}
 use Rattle.terms.specs.Cells.{payload, Variable, Fields}
@@ -107,14 +107,6 @@ empty_list (x ∷ xs) h = absurd (omega arith)
 module _ (bytes old new : List ℕ) (n : ℕ) (read : CellsRead bytes old new n) (fit : Fit 256 bytes) (room : 2049 ≤ length old) (kept : length new ≡ length old) where
   pub count_is : length (take n new) ≡ n
   count_is = length-take-le n new (omega (arith, read.count))
-
-  pub whole_spelt : length bytes ≡ 8 * n → Spells bytes (take n new) []
-  whole_spelt h =
-      record {
-        words = read.words;
-        spelt = sym (take_all (8 * n) bytes (omega arith)) ∙ sym read.spelt ∙ sym (append-nil (spell spell_cell (take n new)));
-        short = omega arith;
-      }
 
   -- fewer than 2,049 were read: all the whole cells there are
   rest_spelt : n < 2049 → Spells bytes (take n new) (drop (8 * n) bytes)

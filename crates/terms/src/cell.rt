@@ -3,6 +3,9 @@ ghost use Rattle.std.specs.Prelude.{◌≡◌, ℕ, ◌+◌, ◌*◌, ◌/◌, �
 ghost use Rattle.terms.specs.Cells.{kind, binder, children, zeros, payload, form};
 ghost use Rattle.terms.specs.Fields.{Taken, Packed};
 
+// A variable's kind in every calculus.
+pub const VARIABLE: u8 = 0;
+
 pub fn kind(c: u64) -> u8
     ensures { result ≡ kind c }
 {

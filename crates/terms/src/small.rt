@@ -4,9 +4,7 @@ ghost use Rattle.std.specs.List.{list_all};
 ghost use Rattle.terms.specs.Cells.{small};
 ghost use Rattle.terms.specs.Terms.{Small};
 
-use crate::cell::{kind, payload};
-
-const VARIABLE: u8 = 0;
+use crate::cell::{VARIABLE, kind, payload};
 
 // The largest payload of a variable in a term that a rule is tried on.
 const PAYLOAD_MOST: u32 = 65_535;

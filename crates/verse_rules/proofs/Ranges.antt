@@ -1,11 +1,11 @@
 -- The kinds of the cells that a sort admits: values up to 4, of which 0 are the variables. Assumes nothing.
-use Rattle.std.proofs.Common.{◌≡◌, ℕ, ◌≤◌, true, [], ◌∷◌, replicate, sym, refl, ap, ◌∙◌, subst, arith}
+use Rattle.std.proofs.Common.{◌≡◌, ℕ, ◌≤◌, true, [], ◌∷◌, length, replicate, sym, refl, ap, ◌∙◌, subst, arith}
 use lib.ListN.{length-replicate}
 use Rattle.std.proofs.lemmas.Bool.Decides.{nat_tests}
 use Rattle.terms.specs.Cells.{kind, children, payload, cell}
 use Rattle.terms.specs.Rows.{Row, width, var}
 use Rattle.terms.specs.Rows.Row.{none, node}
-use Rattle.terms.proofs.Inject.{lawful_width}
+use Rattle.terms.proofs.Inject.{empty, lawful_width}
 use Rattle.verse.specs.Syntax.{Sort, head_cell, value_cell, admits, kids, children_of, int, tuple, Lawful, Val, Vals, Hnf}
 use Rattle.verse.specs.Syntax.Sort.{val, hnf, exp, equ}
 
@@ -46,11 +46,8 @@ tree_head c ks h = head_range c h.0
 -- a variable, and an integer
 empty_kids : (k : ℕ) (s : Sort) (c : ℕ) (ks : Row) → kind c ≡ k → children_of k (children c) ≡ [] → Lawful (kids s c) ks → ks ≡ none
 unfolding kids
-empty_kids k s c ks e m h = go ks (subst (λ l. Lawful l ks) (ap (λ z. children_of z (children c)) e ∙ m) h)
-  where
-    go : (ks : Row) → Lawful [] ks → ks ≡ none
-    go none h = refl
-    go (node d js r) h = absurd h
+empty_kids k s c ks e m h =
+    empty ks (lawful_width admits kids (kids s c) ks h ∙ ap length (ap (λ z. children_of z (children c)) e ∙ m))
 
 leaf_cell : (c : ℕ) → value_cell c ≡ true → kind c ≡ 0 → c ≡ cell 0 0 0 (payload c)
 leaf_cell c h k = grind (arith, nat_tests)

@@ -1,6 +1,6 @@
-// The forms of a redex and its parts: a reader for each, which answers the parts.
+// The forms of a redex and its parts: a reader for each, which answers the parts. (Those over one part and over two are `only`
+// and `two` at the cell of the form. They stay apart: each promises the sorts of its own parts, and its name reads plainer.)
 ghost use Rattle.std.specs.Prelude.{◌≡◌};
-ghost use Rattle.terms.specs.Cells.{children};
 ghost use Rattle.terms.specs.Rows.{Row, flat, var};
 ghost use Rattle.verse.specs.Syntax.{Sort, Term, seq, app, lambda, choice, exists, one, all, int};
 ghost use Rattle.verse.specs.Syntax.Sort.{val, exp, equ};
@@ -125,7 +125,6 @@ pub fn pair(part: &[u64]) -> Result<(&[u64], &[u64]), No>
 
 // op⟨k1, k2⟩: the payloads of the integers, by the cell of the operator.
 pub fn operands(cells: &[u64], operator: u64) -> Result<(u32, u32), No>
-    requires { children operator ≡ 0 }
     ensures { (t : Row) → Term t → flat t ≡ cells.now → Operands operator t result }
 {
     let (f, v) = application(cells)?;
@@ -148,7 +147,6 @@ pub fn binding(part: &[u64]) -> Result<(u32, &[u64], &[u64]), No>
 
 // The part is that cell alone.
 pub fn exactly(part: &[u64], cell: u64) -> Result<(), No>
-    requires { children cell ≡ 0 }
     ensures { (s : Sort) (t : Row) → Reads s t part.now → Exactly cell t result }
 {
     if is(part, cell) {
