@@ -111,10 +111,10 @@ module _ {C : Type 0} {G : Ghosts C} (m : Meaning) (run : Run C G) (table scratc
       let first = inr (enough, n) in
       record { called = refused_called m run table (stepping s lent) r first; cleared = past_zeros scratch scratch' walk walk' r (stepping_past m (chain_of run table) r lent enough s first) z }
 
-  pub step_accepted : (run' : Run C G) (s : Step) (space table' : List ℕ) (n : ℕ) → StepAnswered m term s run.told.state space (Ok n) → Moves run run' run.told.state run.told.openings n (min (run.told.steps + 1) 4294967295) → length (take n space) ≡ n → table' ≡ laid (take n space) table → StepAsked m run run' s table table' scratch scratch' walk walk' (Ok tt)
-  step_accepted run' s space table' n y v long put =
+  pub step_accepted : (run' : Run C G) (s : Step) (space table' : List ℕ) (next : State) (n : ℕ) → StepAnswered m term s run.told.state space (Ok (next, n)) → Moves run run' run.told.state run.told.openings n (min (run.told.steps + 1) 4294967295) → length (take n space) ≡ n → table' ≡ laid (take n space) table → StepAsked m run run' s table table' scratch scratch' walk walk' (Ok tt)
+  step_accepted run' s space table' next n y v long put =
       record {
-        called = subst (λ u. Called m run run' table u (stepping s lent) (Ok Stepped)) (sym put) (stepped_called m run run' s (take n space) table lent n long (enough, (y.0, (y.1, y.2.yes))) v y.2);
+        called = subst (λ u. Called m run run' table u (stepping s lent) (Ok Stepped)) (sym put) (stepped_called m run run' s (take n space) table lent n long (enough, (y.1, (y.2, y.3.yes))) v y.3);
         cleared = accepted_zeros scratch scratch' walk walk' Stepped z;
       }
 

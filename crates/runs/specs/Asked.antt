@@ -6,6 +6,8 @@ use Rattle.runs.specs.Questions.{Question, asks, AllYes, FirstNo}
 use Rattle.runs.specs.Steps.{layout, lawful}
 use Rattle.runs.specs.declared.call.State.{State}
 use Rattle.runs.specs.declared.call.State.TheVariants.{Idle, Open}
+use Rattle.runs.specs.declared.turning.Event.{Event}
+use Rattle.runs.specs.declared.turning.Event.TheVariants as event
 use Rattle.runs.specs.declared.refusal.Refusal.{Refusal}
 use Rattle.runs.specs.declared.refusal.Refusal.TheVariants as no
 
@@ -13,6 +15,29 @@ use Rattle.runs.specs.declared.refusal.Refusal.TheVariants as no
 abbrev pub Asked : {A : Type 0} → List (Question Refusal) → Result A Refusal → Type 0
 Asked qs (Ok v) = AllYes qs
 Asked qs (Err r) = FirstNo qs r
+
+-- every answer is yes and this state is left, or this is the first no
+abbrev pub Turned : State → List (Question Refusal) → Result State Refusal → Type 0
+Turned next qs (Ok state) = (state ≡ next) × AllYes qs
+Turned next qs (Err r) = FirstNo qs r
+
+-- the state that a call leaves, if it is accepted
+abbrev pub state_after : Event → State
+state_after event.Open = Open
+state_after event.Step = Open
+state_after event.Settle = Idle
+state_after event.Withdraw = Idle
+
+-- 2 for an opening, 6 for the other calls
+abbrev pub state_question : State → Event → Question Refusal
+state_question state event.Open = asks (state ≡ Idle) no.NotIdle
+state_question state event.Step = asks (state ≡ Open) no.NotOpen
+state_question state event.Settle = asks (state ≡ Open) no.NotOpen
+state_question state event.Withdraw = asks (state ≡ Open) no.NotOpen
+
+-- 17
+abbrev pub ticket_question : (number openings : ℕ) → List (Question Refusal)
+ticket_question number openings = asks (number ≡ openings) no.WrongTicket ∷ []
 
 -- 4
 abbrev pub layout_question : List ℕ → List (Question Refusal)
@@ -29,14 +54,14 @@ held_question m cells = asks (Laid cells × m.lawful cells) no.Tampered ∷ []
 -- 2 to 5
 abbrev pub open_questions : Meaning → State → (openings : ℕ) (start : List ℕ) → List (Question Refusal)
 open_questions m state openings start =
-    asks (state ≡ Idle) no.NotIdle ∷ asks (openings < 65535) no.Exhausted ∷ term_questions m start
+    state_question state event.Open ∷ asks (openings < 65535) no.Exhausted ∷ term_questions m start
 
 -- 6 and 17
 abbrev pub withdraw_questions : State → (number openings : ℕ) → List (Question Refusal)
 withdraw_questions state number openings =
-    asks (state ≡ Open) no.NotOpen ∷ asks (number ≡ openings) no.WrongTicket ∷ []
+    state_question state event.Withdraw ∷ ticket_question number openings
 
 -- 6, 17, 7, and the claim's 4 and 5
 abbrev pub settle_questions : Meaning → State → (number openings : ℕ) (term claim : List ℕ) → List (Question Refusal)
 settle_questions m state number openings term claim =
-    asks (state ≡ Open) no.NotOpen ∷ asks (number ≡ openings) no.WrongTicket ∷ asks (Laid term × m.lawful term) no.Tampered ∷ term_questions m claim
+    state_question state event.Settle ∷ asks (number ≡ openings) no.WrongTicket ∷ asks (Laid term × m.lawful term) no.Tampered ∷ term_questions m claim

@@ -32,8 +32,9 @@ module _ (m : Meaning) (cells : List ℕ) (s : Step) where
   RewriteAsked space (Ok n) = Leads m cells s (take n space) × (n ≤ 2048)
   RewriteAsked space (Err r) = FirstNo (step_questions m cells s) r
 
-  -- 6 to 16: the run is open, the term is held, and the one that the step leads to stands there
-  abbrev pub StepAnswered : State → (space : List ℕ) → Result ℕ Refusal → Type 0
-  StepAnswered state space (Ok n) = (state ≡ Open) × (Laid cells × m.lawful cells) × Leads m cells s (take n space) × (n ≤ 2048)
+  -- 6 to 16: the run is open and is left so, the term is held, and the one that the step leads to stands there
+  abbrev pub StepAnswered : State → (space : List ℕ) → Result (State × ℕ) Refusal → Type 0
+  StepAnswered state space (Ok p) =
+      (p.0 ≡ Open) × (state ≡ Open) × (Laid cells × m.lawful cells) × Leads m cells s (take p.1 space) × (p.1 ≤ 2048)
   StepAnswered state space (Err r) =
       FirstNo (asks (state ≡ Open) no.NotOpen ∷ asks (Laid cells × m.lawful cells) no.Tampered ∷ step_questions m cells s) r

@@ -4,7 +4,7 @@ ghost use Rattle.runs.specs.Chain.{fresh, Enough, told as tells_of};
 ghost use Rattle.runs.specs.Rewriting.{step_of};
 ghost use Rattle.runs.specs.Calls.{OpenAsked, StepAsked, SettleAsked, WithdrawAsked, chain_of};
 
-use crate::call::{Settlement, State, Told};
+use crate::call::{Settlement, Told};
 use crate::clean::Clean;
 use crate::refusal::Refusal;
 use crate::run::Run;
@@ -54,9 +54,9 @@ impl<C: Calculus> Run<C> {
             return Err(Refusal::Memory);
         }
         let _clean = Clean { cells: scratch };
-        self.may_open(start, walk.first_chunk_mut().unwrap())?;
+        let next = self.may_open(start, walk.first_chunk_mut().unwrap())?;
         self.told = Told {
-            state: State::Open,
+            state: next,
             openings: self.told.openings + 1,
             steps: 0,
             cells: start.len(),
@@ -83,9 +83,14 @@ impl<C: Calculus> Run<C> {
         let clean = Clean { cells: scratch };
         let space = clean.cells.first_chunk_mut().unwrap();
         let term = &table[..self.told.cells];
-        self.told.cells = self.may_step(step, term, space, walk.first_chunk_mut().unwrap())?;
-        self.told.steps = self.told.steps.saturating_add(1);
-        put(&space[..self.told.cells], table);
+        let (next, cells) = self.may_step(step, term, space, walk.first_chunk_mut().unwrap())?;
+        self.told = Told {
+            state: next,
+            steps: self.told.steps.saturating_add(1),
+            cells,
+            ..self.told
+        };
+        put(&space[..cells], table);
         Ok(())
     }
 
@@ -105,9 +110,10 @@ impl<C: Calculus> Run<C> {
         }
         let _clean = Clean { cells: scratch };
         let term = &table[..self.told.cells];
+        // A match, and no `map_err`: the ticket is spent or handed back.
         match self.may_settle(&ticket, claim, term, walk.first_chunk_mut().unwrap()) {
-            Ok(()) => {
-                self.told.state = State::Idle;
+            Ok(next) => {
+                self.told.state = next;
                 ticket.spend();
                 Ok(compare(claim, term))
             }
@@ -119,9 +125,10 @@ impl<C: Calculus> Run<C> {
     pub fn withdraw(&mut self, ticket: Ticket) -> Result<(), (Refusal, Ticket)>
         ensures { WithdrawAsked (C.Calculus.meaning self.old.calculus) self.old self.new ticket result }
     {
+        // As in `settle`.
         match self.may_withdraw(&ticket) {
-            Ok(()) => {
-                self.told.state = State::Idle;
+            Ok(next) => {
+                self.told.state = next;
                 ticket.spend();
                 Ok(())
             }
