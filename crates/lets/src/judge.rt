@@ -6,6 +6,7 @@ use crate::sort::is_term_cell;
 use terms::cell::children;
 
 // Where the term at a cell ends, and its depth; or the first cell where no term can go on, else the count.
+// A cell number, not the rest of the cells: where a term stops is told as a number among all of them.
 fn term_at(cells: &[u64], at: usize) -> Result<(usize, usize), usize>
     requires { at ≤ length cells.now }
     ensures { TermFrom cells.now at result }

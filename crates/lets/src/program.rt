@@ -41,6 +41,7 @@ fn are_left_cells(cells: &[u64]) -> bool
 fn variables(cells: &[u64]) -> Option<usize>
     ensures { Numbered cells.now result }
 {
+    // An array, and no set of the library: no heap in the run.
     let mut seen = [false; VARIABLES_MOST];
     let mut n = 0;
     for c in cells {

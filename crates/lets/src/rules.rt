@@ -32,6 +32,7 @@ impl Rules {
     }
 
     // Where the rule of this number starts and ends in the cells, if there is one.
+    // Two cell numbers, no slice: a slice has the same cells, and the place is lost.
     pub fn rule(&self, number: usize) -> Option<(usize, usize)>
         ensures { RuleAsked self.now.cells.items number result }
     {

@@ -47,6 +47,7 @@ pub fn call(rule: &[u64], redex: Redex, space: &mut [u64]) -> Result<usize, No>
         at: left.end(),
         n: 1,
     };
+    // An array and a count, no Vec: a step takes nothing from the heap.
     let mut values = [[].as_slice(); BINDINGS_MOST];
     let n = match_left(&rule[2..right.at], &redex.cells[1..], &mut values).ok_or(No::Formless)?;
     let bound = &values[..n];
