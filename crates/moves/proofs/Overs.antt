@@ -71,6 +71,18 @@ fronts_next {xs} {ys} {l} {l'} {part} {n} {m} v w =
       writes = part_back l' part n ∙ ap (λ z. z ++ part) before ∙ ap (λ z. xs ++ z) writes ∙ sym (append_assoc xs ys (drop (n + m) l));
     }
 
+-- after the first n cells, one that is set
+pub fronts_put : {xs l l' : List ℕ} {n : ℕ} → Fronts xs l l' n → (x : ℕ) → n < length l → Fronts (xs ++ (x ∷ [])) l (set l' n x) (n + 1)
+fronts_put {xs} {l} {l'} {n} v x h =
+    let before : take n l' ≡ xs = ap (take n) v.writes ∙ ap (λ k. take k (xs ++ drop n l)) v.count ∙ take-append_seam xs (drop n l) in
+    let after : drop n l' ≡ drop n l = ap (drop n) v.writes ∙ drop_at xs (drop n l) n (sym v.count) in
+    let others : drop (n + 1) l' ≡ drop (n + 1) l = sym (drop-drop 1 n l') ∙ ap (drop 1) after ∙ drop-drop 1 n l in
+    record {
+      count = omega (arith, v.count, length-append xs (x ∷ []));
+      fits = omega (arith, h);
+      writes = over_parts l' n (x ∷ []) (omega (arith, h, fronts_length v)) ∙ ap (λ z. z ++ (x ∷ drop (n + 1) l')) before ∙ ap (λ z. xs ++ (x ∷ z)) others ∙ sym (append_assoc xs (x ∷ []) (drop (n + 1) l));
+    }
+
 -- cells that come back in the place of a part of the list are written over it from there
 pub part_over : (l ys : List ℕ) (to k : ℕ) → k ≡ length ys → to + k ≤ length l → take to l ++ (ys ++ drop k (drop to l)) ≡ over l to ys
 part_over l ys to k e h =

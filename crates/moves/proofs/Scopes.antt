@@ -8,7 +8,7 @@ use Rattle.terms.specs.Rows.Row.{none, node}
 use Rattle.terms.specs.Standing.{Stands}
 use Rattle.terms.specs.declared.forest.Trees.{Trees}
 use Rattle.terms.proofs.Inject.{empty}
-use Rattle.terms.proofs.Standings.{stands_same}
+use Rattle.terms.proofs.Standings.{standing, stands_same}
 use Rattle.terms.proofs.Steps.{Opened, opened, under_is}
 use Rattle.moves.specs.declared.scope.Scope.{Scope}
 use Rattle.moves.specs.Renamings.{first_above}
@@ -20,6 +20,10 @@ part_are p s = rw (p.cells, p.start, p.count) s
 
 pub are_part : {trees part : Trees} {at n : ℕ} {t : Row} → Part trees at n part → Are part t → Stands t n trees.cells.now at
 are_part p s = rw (← p.cells, ← p.start, ← p.count) s
+
+-- a scope's trees
+abbrev pub row : Scope → Row
+row s = (standing s.trees.standing).0
 
 -- the binders above the first tree of a row
 first_is : {t : Row} {n at : ℕ} {cells : List ℕ} (o : Opened t n at cells) (d b e : ℕ) → (n ≡ 0 → ⊥) → e ≡ first_above n d b → e ≡ above d b o.r

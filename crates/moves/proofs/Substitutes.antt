@@ -1,9 +1,11 @@
 -- A row with trees put for its free variables: its first tree, then the others. Assumes nothing.
-use Rattle.std.proofs.Common.{◌≡◌, ℕ, zero, suc, ◌+◌, ◌-◌, ◌<◌, Bool, true, false, cond, List, ◌∷◌, ◌++◌, length, take, drop, set, Some, None, Option, sym, refl, ap, ◌∙◌, subst, append-nil, add-zero, arith}
+use Rattle.std.proofs.Common.{◌≡◌, ℕ, zero, suc, ◌+◌, ◌-◌, ◌<◌, ◌≤◌, Bool, true, false, cond, List, [], ◌∷◌, ◌++◌, length, take, drop, set, Some, None, Option, sym, refl, ap, ◌∙◌, subst, append_assoc, append-nil, length-append, add-zero, arith}
 use Rattle.terms.specs.Cells.{binder, payload, loose}
+use Rattle.terms.specs.Forest.{Are}
 use Rattle.terms.specs.Rows.{Row, flat, size, above, raise, substitute, ◌&◌}
 use Rattle.terms.specs.Rows.Row.{none, node}
-use Rattle.terms.proofs.Trees.{flat-&, &-none}
+use Rattle.terms.proofs.Trees.{flat_size, flat-&, &-none}
+use Rattle.terms.proofs.Standings.{standing, stands_same}
 use Rattle.terms.proofs.Bridge.{size-&, rename_size}
 use Rattle.moves.specs.declared.images.Substitution.{Substitution}
 use Rattle.moves.specs.declared.images.Image.{Image}
@@ -11,10 +13,10 @@ use Rattle.moves.specs.declared.scope.Scope.{Scope}
 use Rattle.moves.specs.Images.{image_of, extent, Shown, Shows, Sizes}
 use Rattle.moves.specs.Moved.{Written}
 use Rattle.moves.specs.Renamings.{free}
-use Rattle.moves.specs.Scopes.{Rest}
-use Rattle.moves.specs.Substitutions.{Spent, Substituted}
-use Rattle.moves.proofs.Overs.{fronts_cell, fronts_next, fronts_row, row_fronts}
-use Rattle.moves.proofs.Scopes.{Cut}
+use Rattle.moves.specs.Scopes.{Inner, Rest}
+use Rattle.moves.specs.Substitutions.{Spent, Putting, PuttingFirst, Substituted}
+use Rattle.moves.proofs.Overs.{Fronts, fronts_none, fronts_cell, fronts_next, fronts_row, row_fronts, fronts_length, part_length}
+use Rattle.moves.proofs.Scopes.{row, Cut, cut, rest_are, no_trees}
 
 module _ (s : ℕ → Row) where
   -- what becomes of a first tree under e binders
@@ -69,15 +71,10 @@ module _ {S i : Scope} {c : ℕ} {t : Row} (k : Cut S c i t) (s : ℕ → Row) w
   pub spent_none : {room : ℕ} → Spent (i.trees.at + size k.ks) (size (substitute s i.d 0 (node c k.ks none))) room None → Spent (S.trees.at + size t) (size (substitute s S.d S.b t)) room None
   spent_none f = omega (arith, f, sub_size)
 
-  -- what is written, first the one, then the others
-  pub joined : {q : Scope} {next end n m : ℕ} {old mid part : List ℕ} → Rest S next q → Substituted (i.trees.at + size k.ks) (substitute s i.d 0 (node c k.ks none)) old mid (next, n) → Substituted (q.trees.at + size k.r) (substitute s q.d q.b k.r) (take (length mid - n) (drop n mid)) part (end, m) → Substituted (S.trees.at + size t) (substitute s S.d S.b t) old (take n mid ++ (part ++ drop (length mid - n) (drop n mid))) (end, n + m)
-  joined {q} e f g =
-      let z = e.part.start in
-      let fl = ap (λ u. flat (substitute s i.d 0 (node c k.ks none)) ++ flat u) (rest_is e) ∙ sym (flat-& (substitute s i.d 0 (node c k.ks none)) (substitute s S.d S.b k.r)) ∙ ap flat (sym sub_is) in
-      record {
-        ends = omega (arith, f.ends, g.ends, k.sized, k.starts);
-        wrote = row_fronts fl (fronts_next (fronts_row f.wrote) (fronts_row g.wrote));
-      }
+  -- the cells of the first, then those of the others
+  pub joined : {q : Scope} {next : ℕ} → Rest S next q → flat (substitute s i.d 0 (node c k.ks none)) ++ flat (substitute s q.d q.b k.r) ≡ flat (substitute s S.d S.b t)
+  joined e =
+      ap (λ u. flat (substitute s i.d 0 (node c k.ks none)) ++ flat u) (rest_is e) ∙ sym (flat-& (substitute s i.d 0 (node c k.ks none)) (substitute s S.d S.b k.r)) ∙ ap flat (sym sub_is)
 
 -- one tree, whose cell is a free variable
 module _ (s : ℕ → Row) (d c n : ℕ) (ks : Row) (h : Some n ≡ free d c) where
@@ -103,6 +100,80 @@ module _ (s : ℕ → Row) (d b c : ℕ) (ks : Row) (h : None ≡ free d c) (eb 
   tree_miss {old = old} l f =
       let e = ap (λ u. c ∷ u) (sym (append-nil (flat (substitute s d b ks)))) ∙ ap flat (sym miss_is) in
       record { ends = f.ends; wrote = row_fronts e (fronts_next (fronts_cell old c l) (fronts_row f.wrote)) }
+
+-- The trees of S before those of q, of the row r, are written at the front of the list, n cells, with trees put for
+-- their free variables: the trees that s gives.
+pub record Filling (s : ℕ → Row) (S q : Scope) (r : Row) (out out' : List ℕ) (n : ℕ) : Type 0 where
+  pub xs : List ℕ
+  pub wrote : Fronts xs out out' n
+  pub joins : xs ++ flat (substitute s q.d q.b r) ≡ flat (substitute s S.d S.b (row S))
+
+-- whatever trees are shown
+pub record Filled (how : Substitution) (S q : Scope) (out out' : List ℕ) (n : ℕ) : Type 0 where
+  pub r : Row
+  pub stands : Are q.trees r
+  pub cells : q.trees.cells.now ≡ S.trees.cells.now
+  pub start : S.trees.at ≤ q.trees.at
+  pub ends : q.trees.at + size r ≡ S.trees.at + size (row S)
+  pub each : (s : ℕ → Row) → Shows how s → Filling s S q r out out' n
+
+pub fill : (how : Substitution) (S : Scope) (out : List ℕ) → Filled how S S out out 0
+fill how S out =
+    record { r = row S; stands = (standing S.trees.standing).1; cells = refl; start = omega arith; ends = refl; each = λ s z. record { xs = []; wrote = fronts_none out; joins = refl } }
+
+module _ {how : Substitution} {S q : Scope} {n : ℕ} {out out' : List ℕ} (v : Filled how S q out out' n) where
+  -- there are no others
+  pub all_filled : q.trees.n ≡ 0 → (t : Row) (s : ℕ → Row) → Are S.trees t → Shows how s → Substituted (S.trees.at + size t) (substitute s S.d S.b t) out out' (q.trees.at, n)
+  all_filled e t s a z =
+      let same = stands_same (standing S.trees.standing).1 a in
+      let none = no_trees e v.stands in
+      let w = v.each s z in
+      record {
+        ends = omega (arith, v.ends, ap size same, ap size none);
+        wrote = row_fronts (sym (append-nil w.xs) ∙ sym (ap (λ u. w.xs ++ flat (substitute s q.d q.b u)) none) ∙ w.joins ∙ ap (λ u. flat (substitute s S.d S.b u)) same) w.wrote;
+      }
+
+  -- or a first one, for which there is room
+  module _ {i : Scope} {c : ℕ} (p : Inner q c i) (g : Putting S how (length out)) where
+    pub first : Cut q c i v.r
+    first = cut p v.stands
+
+    pub filling : Filling g.s S q v.r out out' n
+    filling = v.each g.s g.shows
+
+    pub room : n + (size (substitute g.s i.d 0 (node c first.ks none)) + size (substitute g.s q.d q.b first.r)) ≤ length out
+    room =
+        let same = ap (λ u. size (substitute g.s S.d S.b u)) (stands_same (standing S.trees.standing).1 g.stands) in
+        omega (arith, same, g.small, filling.wrote.count, ap length filling.joins, length-append filling.xs (flat (substitute g.s q.d q.b v.r)), flat_size (substitute g.s q.d q.b v.r), flat_size (substitute g.s S.d S.b (row S)), sub_size first g.s)
+
+    pub long : length out' ≡ length out
+    long = fronts_length filling.wrote
+
+    pub putting : PuttingFirst c i how (length (take (length out' - n) (drop n out')))
+    putting = record { kids = first.ks; stands = first.inner; s = g.s; shows = g.shows; small = omega (arith, room, long, part_length out' n) }
+
+    -- it is written
+    module _ {next m : ℕ} {part : List ℕ} (f : (ks : Row) (s : ℕ → Row) → Are i.trees ks → Shows how s → Substituted (i.trees.at + size ks) (substitute s i.d 0 (node c ks none)) (take (length out' - n) (drop n out')) part (next, m)) where
+      pub wrote_first : Substituted (i.trees.at + size first.ks) (substitute g.s i.d 0 (node c first.ks none)) (take (length out' - n) (drop n out')) part (next, m)
+      wrote_first = f first.ks g.s first.inner g.shows
+
+      pub next_filled : {q' : Scope} → Rest q next q' → Filled how S q' out (take n out' ++ (part ++ drop (length out' - n) (drop n out'))) (n + m)
+      next_filled {q'} e =
+          record {
+            r = first.r;
+            stands = rest_are first e (omega (arith, wrote_first.ends, first.starts));
+            cells = e.part.cells ∙ v.cells;
+            start = omega (arith, e.part.start, wrote_first.ends, first.starts, v.start);
+            ends = omega (arith, e.part.start, wrote_first.ends, first.starts, first.sized, v.ends);
+            each = λ s z.
+                let w = v.each s z in
+                let ys = flat (substitute s i.d 0 (node c first.ks none)) in
+                record {
+                  xs = w.xs ++ ys;
+                  wrote = fronts_next w.wrote (fronts_row (f first.ks s first.inner z).wrote);
+                  joins = append_assoc w.xs ys (flat (substitute s q'.d q'.b first.r)) ∙ ap (λ y. w.xs ++ y) (joined first s e) ∙ w.joins;
+                };
+          }
 
 -- trees of any sizes
 blank : ℕ → Row

@@ -46,9 +46,7 @@ fn rename_term(cells: &[u64], how: Renaming, space: &mut [u64]) -> Result<usize,
     requires { most how < 2 ^ 63 }
     ensures { Moved (rename (renamed how) 0 0) cells.now space.old space.new result }
 {
-    let Some(term) = one_term(cells) else {
-        return Err(Unmoved::NoTerm);
-    };
+    let term = one_term(cells).ok_or(Unmoved::NoTerm)?;
     if cells.len() > space.len() {
         return Err(Unmoved::NoRoom);
     }
@@ -65,12 +63,8 @@ fn put_value(
     requires { Puts how value.now }
     ensures { MovedWith (put how.entry) cells.now value.now space.old space.new result }
 {
-    let Some(term) = one_term(cells) else {
-        return Err(Unmoved::NoTerm);
-    };
-    let Some(_value) = one_term(value) else {
-        return Err(Unmoved::NoValue);
-    };
+    let term = one_term(cells).ok_or(Unmoved::NoTerm)?;
+    let _value = one_term(value).ok_or(Unmoved::NoValue)?;
     substitution::substitute(term, how, space).ok_or(Unmoved::NoRoom)
 }
 

@@ -8,10 +8,10 @@ ghost use Rattle.moves.specs.Renamings.{renamed, most, free, first_above};
 ghost use Rattle.moves.specs.Scopes.{Fits};
 
 use crate::scope::Scope;
-use terms::cell::{kind, payload};
+use terms::cell::{VARIABLE, kind, payload};
 use terms::forest::Trees;
 
-// What becomes of a free number.
+// What becomes of a free number. (How far it goes up is bounded by a `requires` where that counts: an enum has no ghost field.)
 #[derive(Clone, Copy, PartialEq, Eq, Debug)]
 pub enum Renaming {
     // It goes up by so many,
@@ -45,7 +45,7 @@ impl Renaming {
 pub fn free_number(c: u64, under: u64) -> Option<u64>
     ensures { result ≡ free under c }
 {
-    if kind(c) != 0 {
+    if kind(c) != VARIABLE {
         return None;
     }
     u64::from(payload(c)).checked_sub(under)
@@ -76,13 +76,15 @@ pub fn rename_scope(scope: Scope, how: Renaming, out: &mut [u64]) -> usize
     requires mild { most how < 2 ^ 63 }
     ensures { (t : Row) → Are scope.entry.trees t → Written (rename (renamed how) scope.entry.d scope.entry.b t) out.old out.new result }
 {
-    let Some((c, inner)) = scope.first() else {
-        return 0;
-    };
-    out[0] = renumber(c, how, inner.d);
-    let count = 1 + rename_scope(inner, how, &mut out[1..]);
-    let others = scope.others(scope.trees.at + count);
-    count + rename_scope(others, how, &mut out[count..])
+    let mut rest = scope;
+    let mut count = 0;
+    while let Some((c, inner)) = rest.first() {
+        out[count] = renumber(c, how, inner.d);
+        let kids = rename_scope(inner, how, &mut out[count + 1..]);
+        count += 1 + kids;
+        rest = rest.others(scope.trees.at + count);
+    }
+    count
 }
 
 // The same of trees under no binder.

@@ -49,13 +49,14 @@ pub fn substitute_scope(scope: Scope, how: Substitution, out: &mut [u64]) -> (us
     requires { Putting scope how (length out.old) }
     ensures { (t : Row) (s : ℕ → Row) → Are scope.entry.trees t → Shows how.entry s → Substituted (scope.entry.trees.at + size t) (substitute s scope.entry.d scope.entry.b t) out.old out.new result }
 {
-    let Some((c, inner)) = scope.first() else {
-        return (scope.trees.at, 0);
-    };
-    let (next, count) = substitute_first(c, inner, how, out);
-    let others = scope.others(next);
-    let (end, more) = substitute_scope(others, how, &mut out[count..]);
-    (end, count + more)
+    let mut rest = scope;
+    let mut count = 0;
+    while let Some((c, inner)) = rest.first() {
+        let (next, more) = substitute_first(c, inner, how, &mut out[count..]);
+        count += more;
+        rest = rest.others(next);
+    }
+    (rest.trees.at, count)
 }
 
 // The same of one tree, by its cell and its children.
