@@ -1,7 +1,7 @@
 // Cells in bytes: eight bytes a cell, most significant first.
 #![tactic(auto)]
 
-ghost use Rattle.std.specs.Prelude.{◌≡◌, ◌+◌, ◌/◌, ◌≤◌, length, take, drop};
+ghost use Rattle.std.specs.Prelude.{◌≡◌, ◌+◌, ◌≤◌, length, take, drop};
 ghost use Rattle.cell_bytes.specs.Holding.{CellsMeasured};
 ghost use Rattle.cell_bytes.specs.Spelling.{spell_cell, CellsRead};
 
@@ -26,6 +26,7 @@ pub fn read_cells(bytes: &[u8], cells: &mut [u64]) -> usize
 {
     let (words, _) = bytes.as_chunks();
     let n = words.len().min(cells.len());
+    // By its number: of what a loop over a `zip` with `iter_mut` wrote, a proof knows nothing once the loop is over.
     for (i, word) in words[..n].iter().enumerate() {
         cells[i] = cell(word);
     }
