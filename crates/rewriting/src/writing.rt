@@ -9,7 +9,7 @@ use moves::renaming::{Renaming, rename};
 use terms::forest::Trees;
 
 // Writes the cells from one on. Answers where they end.
-// A cell number beside the space: with `&mut space[to..]` at each piece the rules' checks took minutes.
+// A cell number beside the space: with `&mut space[to..]` at each piece thirty goals on parts of parts stayed open.
 pub(crate) fn put(cells: &[u64], space: &mut [u64], to: usize) -> usize
     requires { to + length cells.now ≤ length space.old }
     ensures end { result ≡ to + length cells.now }
