@@ -1,5 +1,5 @@
 -- A let at a cell: its cell, what it binds, its body. Assumes nothing.
-use Rattle.std.proofs.Common.{◌≡◌, ℕ, suc, ◌+◌, ◌≤◌, true, List, [], ◌∷◌, length, get_or, replicate, sym, refl, ap, ◌∙◌, subst, arith}
+use Rattle.std.proofs.Common.{◌≡◌, ℕ, suc, ◌+◌, true, List, [], ◌∷◌, length, get_or, replicate, sym, refl, ap, ◌∙◌, subst, arith}
 use Rattle.std.proofs.lemmas.Bool.Decides.{nat_tests}
 use Rattle.terms.specs.Cells.{kind, binder, children, zeros, payload, cell}
 use Rattle.terms.specs.Rows.{Row, flat, size, ◌&◌}
@@ -15,7 +15,7 @@ use Rattle.lets.specs.Figure.{Let, Lets}
 use Rattle.lets.proofs.Laws.{beside, one_wide}
 use Rattle.lets.proofs.MoreLaws.{term_kids}
 use Rattle.rewriting.proofs.CellWhole.{cell_is}
-use Rattle.rewriting.proofs.Standings.{TermAt, stands_left, stands_right, cell_here, kids_here, tree_within, top_here}
+use Rattle.rewriting.proofs.Standings.{TermAt, stands_left, stands_right, kids_here, top_here}
 
 -- the fields of a let's cell, and the cell itself
 let_fields : (c : ℕ) → admits term c ≡ true → kind c ≡ 35 → (binder c ≡ 1) × (children c ≡ 2) × (zeros c ≡ 0) × (payload c ≡ 0)

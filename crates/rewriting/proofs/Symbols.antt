@@ -1,5 +1,5 @@
 -- A symbol with a child of a number: its cell, the trees before the child, the child, those after it. Assumes nothing.
-use Rattle.std.proofs.Common.{◌≡◌, ℕ, zero, suc, ◌+◌, ◌<◌, ◌≤◌, List, length, get_or, replicate, sym, refl, ap, ◌∙◌, subst, arith}
+use Rattle.std.proofs.Common.{◌≡◌, ℕ, zero, suc, ◌+◌, ◌<◌, ◌≤◌, List, get_or, replicate, sym, refl, ap, ◌∙◌, subst, arith}
 use lib.ListN.{length-replicate}
 use Rattle.terms.specs.Cells.{kind, children}
 use Rattle.terms.specs.Rows.{Row, size, width, ◌&◌}

@@ -3,7 +3,7 @@ use Rattle.terms.proofs.Steps.{size_within}
 use Rattle.lets.specs.Owned.{RuleStands, RuleAsked}
 use Rattle.rewriting.specs.Programs.{program}
 use Rattle.rewriting.proofs.Standings.{tree_here}
-use Rattle.rewriting.proofs.Askings.{there_rule, rule_of}
+use Rattle.rewriting.proofs.Askings.{rule_of}
 use Rattle.rewriting.proofs.LetRewriting.call_rule.Goals as goal
 use Rattle.rewriting.proofs.LetRewriting.call_rule.Goals.{After-unwrap-start}
 

@@ -1,12 +1,11 @@
-use Rattle.std.proofs.Common.{◌-◌, refl, subst, arith}
-use Rattle.terms.specs.Rows.{Free, down}
+use Rattle.std.proofs.Common.{◌-◌, refl, arith}
+use Rattle.terms.specs.Rows.{down}
 use Rattle.terms.specs.Rows.Row.{none}
 use Rattle.terms.proofs.Bridge.{rename_size}
 use Rattle.moves.proofs.Scopes.{fits}
 use Rattle.lets.specs.Figure.{elim_let}
 use Rattle.rewriting.proofs.Standings.{spelled_size}
-use Rattle.rewriting.proofs.LetParts.{let_same}
-use Rattle.rewriting.proofs.Sought.{found_free, not_free}
+use Rattle.rewriting.proofs.Sought.{not_free}
 use Rattle.rewriting.proofs.Redexes.{spelling}
 use Rattle.rewriting.proofs.Steps.{wrote_row}
 use Rattle.rewriting.proofs.elim.eliminate.Goals as goal

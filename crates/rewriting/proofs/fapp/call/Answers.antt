@@ -9,7 +9,7 @@ use Rattle.lets.specs.Syntax.{light, ProgramRule}
 use Rattle.lets.specs.Figure.{Called, binding, fapp}
 use Rattle.rewriting.specs.Matchings.{Facing, Bound, Matched}
 use Rattle.rewriting.proofs.Standings.{TermAt, spelled}
-use Rattle.rewriting.proofs.Callings.{Parted, Applied, left_at, parted, rule_long, applied, facing, calls_head, called_match, called, gives_right}
+use Rattle.rewriting.proofs.Callings.{Parted, Applied, left_at, parted, applied, facing, calls_head, called_match, called, gives_right}
 use Rattle.rewriting.proofs.Givens.{bound_front, given, shows_given, given_same}
 use Rattle.rewriting.proofs.Redexes.{spelling, at_front}
 use Rattle.rewriting.proofs.Steps.{ok_or_err, ok_or_ok, put_row}

@@ -1,7 +1,5 @@
-use Rattle.std.proofs.Common.{◌≡◌, get_or, refl, sym, ap, ◌∙◌, arith}
+use Rattle.std.proofs.Common.{◌≡◌, get_or, sym, ap, ◌∙◌, arith}
 use Rattle.terms.specs.Cells.{kind}
-use Rattle.rewriting.proofs.Standings.{spelled}
-use Rattle.rewriting.proofs.LetParts.{here_other}
 use Rattle.rewriting.proofs.Redexes.{spelling, of_each, kept, the_let, bound_stands, body_within, bound_cells, body_cells}
 use Rattle.rewriting.proofs.redex.Redex.as_let.Goals as goal
 use Rattle.rewriting.proofs.redex.Redex.as_let.Goals.{Else-kind}

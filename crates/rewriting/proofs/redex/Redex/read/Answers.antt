@@ -1,5 +1,4 @@
 use Rattle.std.proofs.Common.{refl}
-use Rattle.std.proofs.lemmas.Bool.Decides.{not_from_Decides}
 use Rattle.rewriting.proofs.Askings.{redex_spells}
 use Rattle.rewriting.proofs.redex.Redex.read.Goals as goal
 
