@@ -5,7 +5,7 @@ use Rattle.layout.specs.declared.Walk.{Walk}
 use Rattle.calculus.specs.Meaning.{Meaning}
 use Rattle.runs.specs.Questions.{AllYes, FirstNo}
 use Rattle.runs.specs.Steps.{Step, Leads}
-use Rattle.runs.specs.Chain.{Event, opening, stepping, settling, withdrawing, questions, held, Enough, accepted, refused}
+use Rattle.runs.specs.Chain.{Event, opening, stepping, settling, withdrawing, Compared, questions, held, Enough, accepted, refused}
 use Rattle.runs.specs.Theorem.{laid}
 use Rattle.runs.specs.Calls.{chain_of, Called, Cleared, lent_of, OpenAsked, StepAsked, SettleAsked, WithdrawAsked}
 use Rattle.runs.specs.Asked.{open_questions, withdraw_questions, settle_questions}
@@ -14,11 +14,12 @@ use Rattle.runs.specs.Turning.{Moves}
 use Rattle.runs.specs.declared.run.Run.{Run}
 use Rattle.runs.specs.declared.ticket.Ticket.{Ticket}
 use Rattle.runs.specs.declared.call.State.{State}
-use Rattle.runs.specs.declared.call.State.TheVariants.{Open}
+use Rattle.runs.specs.declared.call.State.TheVariants.{Idle, Open}
 use Rattle.runs.specs.declared.call.Lent.{Lent}
+use Rattle.runs.specs.declared.call.Settlement.{Settlement}
 use Rattle.runs.specs.Answers.{Answer}
 use Rattle.runs.specs.declared.call.Done.{Done}
-use Rattle.runs.specs.declared.call.Done.TheVariants.{Opened, Stepped}
+use Rattle.runs.specs.declared.call.Done.TheVariants.{Opened, Stepped, Settled}
 use Rattle.runs.specs.declared.refusal.Refusal.{Refusal}
 use Rattle.runs.specs.declared.refusal.Refusal.TheVariants as no
 use Rattle.runs.proofs.Ones.{IsPast1, open_past, stepping_past, settling_past}
@@ -70,6 +71,16 @@ module _ {C : Type 0} {G : Ghosts C} (m : Meaning) (run run' : Run C G) where
         turn = accepted y (refl, (to, l, chain_is run.told.state run.told.openings n _ to (laid to table) v there));
         refused = λ r e. absurd (cc);
         table_is = ap (λ t. laid t table) (sym here);
+      }
+
+  -- an accepted settlement
+  settled_called : (number : ℕ) (claim table : List ℕ) (lent : Lent) (v : Settlement) → AllYes (questions m (chain_of run table) (held m (chain_of run table) ∷ []) (settling number claim lent)) → Moves run run' Idle run.told.openings run.told.cells run.told.steps → Compared claim (take run.told.cells table) v → Called m run run' table table (settling number claim lent) (Ok (Settled v))
+  settled_called number claim table lent v y w k =
+      record {
+        calculus = w.calculus;
+        turn = accepted y ((v, refl, k), chain_is Idle run.told.openings run.told.cells run.told.steps (take run.told.cells table) table w refl);
+        refused = λ r e. absurd (cc);
+        table_is = refl;
       }
 
 -- a call that is handed too little is refused by 1
@@ -125,6 +136,14 @@ module _ {C : Type 0} {G : Ghosts C} (m : Meaning) (run : Run C G) (table scratc
         called = refused_called m run table (settling ticket.number claim lent) r first;
         cleared = past_zeros scratch scratch' walk walk' r (settling_past m (chain_of run table) r lent enough ticket.number claim first) z;
         ticket_back = refl;
+      }
+
+  pub settle_accepted : (run' : Run C G) (ticket : Ticket) (claim : List ℕ) (v : Settlement) → AllYes (settle_questions m run.told.state ticket.number run.told.openings term claim) → Moves run run' Idle run.told.openings run.told.cells run.told.steps → Compared claim term v → SettleAsked m run run' ticket claim table scratch scratch' walk walk' (Ok v)
+  settle_accepted run' ticket claim v y w k =
+      record {
+        called = settled_called m run run' ticket.number claim table lent v (enough, y) w k;
+        cleared = accepted_zeros scratch scratch' walk walk' (Settled v) z;
+        ticket_back = tt;
       }
 
 -- withdrawal is handed no memory
