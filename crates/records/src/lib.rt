@@ -1,12 +1,13 @@
 // Steps in bytes: rule 6 bits, place length 9, inner length 9, argument 8, then one byte an entry.
 #![tactic(auto)]
 
+ghost use Rattle.std.specs.Prelude.{drop};
 ghost use Rattle.records.specs.Reading.{StepRead, StepsMeasured};
 
 use runs::step::Step;
 
 // The step at the front of the bytes, and the bytes behind it; none where they end before it does.
-pub fn read_step(bytes: &[u8]) -> Option<(Step<'_>, &[u8])>
+pub fn first_step(bytes: &[u8]) -> Option<(Step<'_>, &[u8])>
     ensures { StepRead bytes.now result }
 {
     let (head, entries) = bytes.split_first_chunk()?;
@@ -22,13 +23,20 @@ pub fn read_step(bytes: &[u8]) -> Option<(Step<'_>, &[u8])>
     Some((step, rest))
 }
 
+// The same from a place in the bytes on.
+pub fn read_step(bytes: &[u8], at: usize) -> Option<(Step<'_>, &[u8])>
+    ensures { StepRead (drop at bytes.now) result }
+{
+    first_step(bytes.get(at..).unwrap_or(&[]))
+}
+
 // The first byte lacking or left over where the bytes are to hold exactly so many steps; none where they do.
 pub fn steps_amiss(bytes: &[u8], count: usize) -> Option<usize>
     ensures { StepsMeasured count bytes.now result }
 {
     let mut rest = bytes;
     for _ in 0..count {
-        match read_step(rest) {
+        match first_step(rest) {
             Some((_, behind)) => rest = behind,
             None => return Some(bytes.len()),
         }

@@ -2,7 +2,7 @@
 use Rattle.std.proofs.Common.{◌≡◌, ℕ, ◌+◌, ◌-◌, ◌<◌, ◌≤◌, List, ◌++◌, length, take, drop, Some, None, Option, Ok, Err, Result, sym, refl, ap, ◌∙◌, subst, inl, inr, append_assoc, arith, length-append}
 use borrow.Rule.Slice.PartMut.{put_mid}
 use lib.Seq.{paste}
-use Rattle.std.proofs.lemmas.List.{take_at, drop_at, length-take-le}
+use Rattle.std.proofs.lemmas.List.{take_at, drop_at, length-take-le, take-append-le}
 use Rattle.std.proofs.lemmas.Slice.{take-put_mid}
 use Rattle.std.proofs.lemmas.Bool.{cases_lt}
 use Rattle.std.specs.Option.{IsSome}
@@ -23,7 +23,7 @@ use Rattle.calculus.proofs.Keeping.{steps_keep}
 use Rattle.calculus.specs.declared.no.No.{No}
 use Rattle.runs.specs.Questions.{FirstNo}
 use Rattle.runs.specs.Steps.{Step, step_questions, Leads}
-use Rattle.runs.specs.Rewriting.{Found}
+use Rattle.runs.specs.Rewriting.{Found, RewriteAsked}
 use Rattle.runs.specs.declared.refusal.Refusal.{Refusal}
 use Rattle.calculus.specs.declared.no.No.TheVariants as say
 use Rattle.runs.specs.declared.refusal.Refusal.TheVariants as no
@@ -139,3 +139,8 @@ surround_is space w u l v r n k room pasted lefts rights =
     let w-is : w ≡ (take (length l) space ++ take n space) ++ drop (length l + n) space = pasted ∙ ap (paste space (length l) space) n-is in
     let wide : length (take n space) ≡ n = length-take-le n space (omega arith) in
     rw (lefts, rights) (surrounded l (take n space) r space w (length l) n k refl wide (omega arith) w-is)
+
+-- what stands at the front of a space stands there in a longer one
+pub longer : (m : Meaning) (cells : List ℕ) (s : Step) (front rest : List ℕ) (r : Result ℕ Refusal) → 2048 ≤ length front → RewriteAsked m cells s front r → RewriteAsked m cells s (front ++ rest) r
+longer m cells s front rest (Ok n) k h = (subst (Leads m cells s) (sym (take-append-le n front rest (omega (arith, h.1, k)))) h.0, h.1)
+longer m cells s front rest (Err e) k h = h

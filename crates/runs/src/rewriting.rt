@@ -49,7 +49,7 @@ fn surround(parts: Parts, n: usize, space: &mut [u64; CELLS_MOST])
 }
 
 // 8 to 16: how many cells the term has that the step leads to. It stands at the front of the space.
-pub fn rewrite<C: Calculus>(
+pub(crate) fn rewrite_within<C: Calculus>(
     calculus: &C,
     step: Step,
     term: &[u64],
@@ -57,7 +57,8 @@ pub fn rewrite<C: Calculus>(
     walk: &mut [Walk; DEPTH_MOST],
 ) -> Result<usize, Refusal>
     requires { Laid term.now }
-    ensures { RewriteAsked (C.Calculus.meaning calculus.now) term.now (step_of step.entry) space.new result }
+    ensures leads { RewriteAsked (C.Calculus.meaning calculus.now) term.now (step_of step.entry) space.new result }
+    ensures cells { length space.new ≡ 2048 }
 {
     let parts = split(calculus, step, term)?;
     let at = parts.left.len();
@@ -71,4 +72,26 @@ pub fn rewrite<C: Calculus>(
     surround(parts, n, space);
     kept(&space[..cells], walk).map_err(|_| Refusal::TooDeep(at))?;
     Ok(cells)
+}
+
+// The same with a space and a walk list that may be longer than enough.
+pub fn rewrite<C: Calculus>(
+    calculus: &C,
+    step: Step,
+    term: &[u64],
+    space: &mut [u64],
+    walk: &mut [Walk],
+) -> Result<usize, Refusal>
+    requires held { Laid term.now }
+    requires room { (2048 ≤ length space.old) × (256 ≤ length walk.old) }
+    ensures { RewriteAsked (C.Calculus.meaning calculus.now) term.now (step_of step.entry) space.new result }
+{
+    let enough = space.first_chunk_mut().unwrap();
+    rewrite_within(
+        calculus,
+        step,
+        term,
+        enough,
+        walk.first_chunk_mut().unwrap(),
+    )
 }

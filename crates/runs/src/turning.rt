@@ -7,7 +7,7 @@ ghost use Rattle.runs.specs.Rewriting.{StepAnswered, step_of};
 use crate::asking::{held, judged};
 use crate::call::State;
 use crate::refusal::Refusal;
-use crate::rewriting::rewrite;
+use crate::rewriting::rewrite_within;
 use crate::run::Run;
 use crate::step::Step;
 use crate::ticket::Ticket;
@@ -69,7 +69,7 @@ impl<C: Calculus> Run<C> {
     {
         let next = self.told.state.after(Event::Step)?;
         held(&self.calculus, term, walk)?;
-        let cells = rewrite(&self.calculus, step, term, space, walk)?;
+        let cells = rewrite_within(&self.calculus, step, term, space, walk)?;
         Ok((next, cells))
     }
 

@@ -1,4 +1,4 @@
-// Choice. (A rule is a function of its own, to be laid beside its line in the figure, though two may have one shape.)
+// Choice.
 ghost use Rattle.verse.specs.Lines.{one_fail, one_value, one_choice, all_fail, all_value, choose_r, choose_l, choose_assoc};
 ghost use Rattle.verse_rules.specs.Rewrites.{Rewrites};
 

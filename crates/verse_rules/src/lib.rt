@@ -1,4 +1,5 @@
-// The rules of the Verse calculus that have no inner place.
+// The rules of the Verse calculus that have no inner place. (A rule is a function of its own, to be laid beside its line in the figure, though two may have one
+// shape.)
 #![tactic(auto)]
 
 pub mod application;

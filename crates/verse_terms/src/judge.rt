@@ -29,7 +29,6 @@ fn tree(sort: Sort, cells: &[u64], at: usize) -> Result<(usize, usize), usize>
 }
 
 // (Let-rewriting has a function of this shape over its own judge. A common one would take that as a closure with its contract, and be longer than both.)
-// (Let-rewriting has a function of this shape over its own judge. A common one would take that as a closure with its contract, and be longer than both.)
 // The cells and the depth of a lawful term; or the first cell where no lawful term can go on, else the count.
 pub fn judge(cells: &[u64]) -> Result<(usize, usize), usize>
     ensures { TermJudged cells.now result }

@@ -1,7 +1,7 @@
 use Rattle.std.proofs.Common.{◌≡◌, ◌<◌, length, refl, arith}
 use Rattle.cell_bytes.proofs.Fills.{Bytes}
 use Rattle.records.proofs.Heads.{leading, leading_is, size, lacks, place_lacks, inner_lacks, stands_cut}
-use Rattle.records.proofs.read_step.Goals as goal
+use Rattle.records.proofs.first_step.Goals as goal
 
 pub returns-in_err-head : goal.returns-in_err-head
 returns-in_err-head c =

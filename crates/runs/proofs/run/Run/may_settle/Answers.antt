@@ -1,0 +1,10 @@
+use Rattle.std.proofs.Common.{rules, ◌≡◌, inr}
+use Rattle.std.proofs.lemmas.Result.{err_from_is_err_and}
+use Rattle.runs.specs.declared.call.State.TheVariants.{Open}
+use Rattle.runs.proofs.run.Run.may_settle.Goals as goal
+
+pub returns-in_err-judged : goal.returns-in_err-judged
+returns-in_err-judged g c =
+    let p = err_from_is_err_and c.from_residual-in_err-judged.result c.from_residual-in_err-judged.ensures.1 in
+    let going : c.args.self.now.told.state ≡ Open = search rules in
+    rw (p.1, p.2) (inr (going, inr (c.in_ok-has_ticket.ensures.0, inr (c.in_ok-held.ensures.0, c.in_err-judged.ensures))))
