@@ -63,11 +63,22 @@ def shape(body):
 
 
 def parameters(head):
-    head = re.sub(r"\b(requires|ensures)\b.*", "", head, flags=re.S)
-    m = re.search(r"\((.*)\)", head, re.S)
-    if not m:
-        return []
-    return [re.sub(r"\s+", " ", p.strip()).replace("'s ", "").replace("'c ", "") for p in re.split(r",(?![^<>()\[\]]*[>)\]])", m[1]) if ":" in p]
+    """The parameters of a function, each with its type."""
+    start = head.find("(", re.search(r"fn \w+", head).end())
+    depth, parts, last = 0, [], start + 1
+    for i in range(start, len(head)):
+        c = head[i]
+        if c in "([{<":
+            depth += 1
+        elif c in ")]}" or c == ">" and head[i - 1] != "-":
+            depth -= 1
+        if depth == 0 or depth == 1 and c == ",":
+            parts.append(head[last:i])
+            last = i + 1
+        if depth == 0:
+            break
+    clean = [re.sub(r"\s+", " ", p.strip()).replace("'s ", "").replace("'c ", "") for p in parts]
+    return [p for p in clean if ":" in p]
 
 
 def main():
