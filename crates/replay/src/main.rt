@@ -32,24 +32,28 @@ impl fmt::Display for Cells<'_> {
     }
 }
 
-// The calls of some lines, each with the memory that it is handed.
-fn calls<'s>(rt: &HostRuntime, lines: &'s [Line]) -> anyhow::Result<Vec<Call<'s>>> {
+// The calls of some lines of a script, each with the memory that it is handed.
+fn calls<'s>(
+    rt: &HostRuntime,
+    script: &'s Script,
+    lines: &[Line],
+) -> anyhow::Result<Vec<Call<'s>>> {
     let mut lent = Lent::ENOUGH;
     let mut calls = Vec::new(rt.alloc());
     for line in lines {
-        match line {
+        match *line {
             Line::Memory {
                 table,
                 scratch,
                 walk,
             } => {
                 lent = Lent {
-                    table: *table,
-                    scratch: *scratch,
-                    walk: *walk,
+                    table,
+                    scratch,
+                    walk,
                 }
             }
-            Line::Open(term) => calls.push(Call::Open(term, lent))?,
+            Line::Open(term) => calls.push(Call::Open(term.of(&script.cells), lent))?,
             Line::Step {
                 rule,
                 argument,
@@ -57,15 +61,17 @@ fn calls<'s>(rt: &HostRuntime, lines: &'s [Line]) -> anyhow::Result<Vec<Call<'s>
                 inner,
             } => {
                 let step = Step {
-                    rule: *rule,
-                    place,
-                    argument: *argument,
-                    inner,
+                    rule,
+                    place: place.of(&script.entries),
+                    argument,
+                    inner: inner.of(&script.entries),
                 };
                 calls.push(Call::Step(step, lent))?
             }
-            Line::Settle { ticket, claim } => calls.push(Call::Settle(*ticket, claim, lent))?,
-            Line::Withdraw(ticket) => calls.push(Call::Withdraw(*ticket))?,
+            Line::Settle { ticket, claim } => {
+                calls.push(Call::Settle(ticket, claim.of(&script.cells), lent))?
+            }
+            Line::Withdraw(ticket) => calls.push(Call::Withdraw(ticket))?,
             Line::Tell | Line::Table(_) => {}
         }
     }
@@ -75,11 +81,11 @@ fn calls<'s>(rt: &HostRuntime, lines: &'s [Line]) -> anyhow::Result<Vec<Call<'s>
 // Performs the calls of some lines on a fresh run and a table of ones: what is said to each, and the table then.
 fn perform(
     rt: &HostRuntime,
-    program: &[u64],
+    script: &Script,
     lines: &[Line],
 ) -> anyhow::Result<(Vec<Said>, Vec<u64>)> {
-    let calls = calls(rt, lines)?;
-    let calculus = LetRewriting::new(Vec::from_slice(rt.alloc(), program)?);
+    let calls = calls(rt, script, lines)?;
+    let calculus = LetRewriting::new(Vec::from_slice(rt.alloc(), &script.program)?);
     let mut table = vec![in rt.alloc(); u64::MAX; MEMORY]?;
     let mut scratch = vec![in rt.alloc(); 0; MEMORY]?;
     let mut walk = vec![in rt.alloc(); Walk::default(); MEMORY]?;
@@ -104,8 +110,8 @@ fn show_answer(rt: &HostRuntime, said: Said) -> anyhow::Result<()> {
 }
 
 // Prints the first n cells of the table after some lines.
-fn show_table(rt: &HostRuntime, program: &[u64], lines: &[Line], n: usize) -> anyhow::Result<()> {
-    let (_, table) = perform(rt, program, lines)?;
+fn show_table(rt: &HostRuntime, script: &Script, lines: &[Line], n: usize) -> anyhow::Result<()> {
+    let (_, table) = perform(rt, script, lines)?;
     let cells = Cells(table.get(..n).unwrap_or(&table));
     println!(rt; "{cells}")?;
     Ok(())
@@ -114,14 +120,14 @@ fn show_table(rt: &HostRuntime, program: &[u64], lines: &[Line], n: usize) -> an
 // Performs a script, and prints a line for each call and question. What is said to the calls comes in their order.
 fn show(rt: &HostRuntime, script: &Script) -> anyhow::Result<()> {
     let lines = script.lines.as_slice();
-    let (said, _) = perform(rt, &script.program, lines)?;
+    let (said, _) = perform(rt, script, lines)?;
     let mut said = said.iter();
     let mut told = Told::default();
     for (i, line) in lines.iter().enumerate() {
         match line {
             Line::Memory { .. } => {}
             Line::Tell => println!(rt; "{told}")?,
-            Line::Table(n) => show_table(rt, &script.program, &lines[..i], *n)?,
+            Line::Table(n) => show_table(rt, script, &lines[..i], *n)?,
             Line::Open(_) | Line::Step { .. } | Line::Settle { .. } | Line::Withdraw(_) => {
                 if let Some(said) = said.next() {
                     show_answer(rt, *said)?;
@@ -137,7 +143,10 @@ fn main(rt: HostRuntime) -> anyhow::Result<()> {
     let mut text = String::new(rt.alloc());
     rt.stdin().take(BYTES_MOST).read_to_string(&mut text)?;
     match Script::parse(rt.alloc(), text.as_str()) {
-        Ok(script) => show(&rt, &script),
+        Ok(script) => {
+            drop(text);
+            show(&rt, &script)
+        }
         Err(fault) => {
             println!(rt; "{fault}")?;
             Ok(())

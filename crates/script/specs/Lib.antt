@@ -1,3 +1,4 @@
+pub mod Part
 pub mod Words
 pub mod Calculus
 pub mod Line

@@ -1,7 +1,10 @@
 -- What a script holds.
-use Rattle.std.specs.Prelude.{◌≡◌, ℕ, ◌+◌, ◌≤◌, ⊤, List, [], ◌++◌, codes, length, All, Option, IfSome}
+use Rattle.std.specs.Prelude.{◌≡◌, ℕ, ◌+◌, ◌≤◌, ⊤, List, [], ◌∷◌, ◌++◌, codes, length, drop, All, Option, IfSome, Result}
 use Rattle.std.specs.Fmt.{decimal}
+use Rattle.script.specs.Line.{Begins, TakesCells, with_end}
+use Rattle.script.specs.Words.{Words, word, ReadsIf, IsNumber, number_of, AreCells, cells_of}
 use Rattle.script.specs.declared.Script.{Script}
+use Rattle.script.specs.declared.calculus.Calculus.TheVariants.{LetRewriting}
 use Rattle.script.specs.declared.fault.Bad.{Bad}
 use Rattle.script.specs.declared.fault.Bad.TheVariants as bad
 use Rattle.script.specs.declared.fault.Fault.{Fault}
@@ -28,9 +31,22 @@ IsSized l = ⊤
 abbrev pub HasSizes : Script → Type 0
 HasSizes s = All IsSized s.lines.items
 
--- the calculus is named, and no line follows yet
-abbrev pub Begun : Script → Type 0
-Begun s = s.lines.items ≡ []
+-- the words of the first line: 2, let-rewriting, and its program's cells; no line follows yet
+abbrev pub Begun : Words → Result Script Bad → Type 0
+Begun words r = ReadsIf r
+    (Begins words (codes "calculus") 2 × IsNumber 255 (word words 1) × (number_of (word words 1) ≡ 2) × AreCells (drop 2 words))
+    (λ s. (s.calculus ≡ LetRewriting) × (s.program.items ≡ cells_of (drop 2 words)) × (s.cells.items ≡ []) × (s.entries.items ≡ []) × (s.lines.items ≡ []))
+
+-- further words of the line read last: of the program where no line follows it yet, else of the last line
+pub record Continues (words : Words) (old new : Script) (r : Result Unit Bad) : Type 0 where
+  pub program : old.lines.items ≡ [] → ReadsIf r
+      (AreCells words)
+      (λ _. (new.program.items ≡ old.program.items ++ cells_of words) × (new.lines.items ≡ [])
+      × (new ≡ record old { program = new.program; lines = new.lines }))
+  pub last : (front : List Line) (line : Line) → old.lines.items ≡ front ++ line ∷ [] → ReadsIf r
+      (TakesCells line × AreCells words)
+      (λ _. (new.cells.items ≡ old.cells.items ++ cells_of words) × (new.lines.items ≡ front ++ with_end (length new.cells.items) line ∷ [])
+      × (new ≡ record old { cells = new.cells; lines = new.lines }))
 
 -- a line more, or none, leaves the sizes so
 abbrev pub Goes : Option Script → Option Script → Type 0

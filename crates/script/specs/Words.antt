@@ -1,11 +1,12 @@
 -- What words write.
-use Rattle.std.specs.Prelude.{◌≡◌, ℕ, ◌≤◌, ◌⊎◌, Bool, false, ◌==◌, if◌then◌else◌, List, [], length, map, slice_index_or, bytes_eq, codes, Result, MatchResult, Vec, All}
+use Rattle.std.specs.Prelude.{◌≡◌, ℕ, ◌≤◌, ◌⊎◌, Bool, false, ◌==◌, if◌then◌else◌, List, [], length, map, slice_index_or, bytes_eq, codes, Result, MatchResult, All}
 use Rattle.std.specs.Borrow.{Bor}
 use Rattle.std.specs.List.{slice_split}
 use Rattle.std.specs.Str.Parse.{IsNumeral, AllDigits, digits_value, without_leading_plus}
-use Rattle.std.specs.declared.alloc.Global.{Global}
+use Rattle.script.specs.Part.{Puts}
 use Rattle.script.specs.declared.fault.Bad.{Bad}
 use Rattle.script.specs.declared.fault.Bad.TheVariants.{Memory}
+use Rattle.script.specs.declared.part.Part.{Part}
 
 -- a `&[&str]`
 abbrev pub Words : Type 0
@@ -37,8 +38,8 @@ cell_of text = digits_value 16 text
 abbrev pub AreCells : Words → Type 0
 AreCells words = All (λ w. IsCell w.now) words
 
-abbrev pub HoldsCells : Words → Vec ℕ Global → Type 0
-HoldsCells words v = v.items ≡ map (λ w. cell_of w.now) words
+abbrev pub cells_of : Words → List ℕ
+cells_of words = map (λ w. cell_of w.now) words
 
 -- a minus, or numbers of at most 255 with dots between them
 abbrev pub parts_of : List ℕ → List (List ℕ)
@@ -54,12 +55,9 @@ IsPlace text = is_root text ≡ false → All (IsNumber 255) (parts_of text)
 abbrev pub entries_of : List ℕ → List ℕ
 entries_of text = if is_root text then [] else map number_of (parts_of text)
 
-abbrev pub HoldsPlace : List ℕ → Vec ℕ Global → Type 0
-HoldsPlace text v = v.items ≡ entries_of text
+-- what words that are to be cells put behind a list, and what a word that is to be a place does
+abbrev pub ReadsCells : Words → List ℕ → List ℕ → Result Part Bad → Type 0
+ReadsCells words old new r = ReadsIf r (AreCells words) (Puts (cells_of words) old new)
 
--- what words that are to be cells give, and what a word that is to be a place gives
-abbrev pub ReadsCells : Words → Result (Vec ℕ Global) Bad → Type 0
-ReadsCells words r = ReadsIf r (AreCells words) (HoldsCells words)
-
-abbrev pub ReadsPlace : List ℕ → Result (Vec ℕ Global) Bad → Type 0
-ReadsPlace text r = ReadsIf r (IsPlace text) (HoldsPlace text)
+abbrev pub ReadsPlace : List ℕ → List ℕ → List ℕ → Result Part Bad → Type 0
+ReadsPlace text old new r = ReadsIf r (IsPlace text) (Puts (entries_of text) old new)

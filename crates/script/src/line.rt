@@ -1,28 +1,28 @@
 // The lines of a script.
-ghost use Rattle.script.specs.Line.{ReadsLine};
+ghost use Rattle.script.specs.Line.{ReadsLine, GoesOn};
 
 use crate::fault::Bad;
-use crate::words::{cells, number, place};
-use std::alloc::Global;
+pub use crate::part::Part;
+use crate::words::{self, number, place};
 
 // A line: the memory handed from now on (cells of table and scratch, walk records), a call, or a question.
-#[derive(Debug, Drop, PartialEq, Eq)]
+#[derive(Clone, Copy, PartialEq, Eq, Debug)]
 pub enum Line {
     Memory {
         table: usize,
         scratch: usize,
         walk: usize,
     },
-    Open(Vec<u64>),
+    Open(Part),
     Step {
         rule: u8,
         argument: u8,
-        place: Vec<u8>,
-        inner: Vec<u8>,
+        place: Part,
+        inner: Part,
     },
     Settle {
         ticket: u16,
-        claim: Vec<u64>,
+        claim: Part,
     },
     Withdraw(u16),
     Tell,
@@ -30,9 +30,9 @@ pub enum Line {
 }
 
 impl Line {
-    // Reads the words of a line.
-    pub fn read(heap: Global, words: &[&str]) -> Result<Line, Bad>
-        ensures { ReadsLine words.now result }
+    // Reads the words of a line. The cells and the place entries that it names are put behind those so far.
+    pub fn read(words: &[&str], cells: &mut Vec<u64>, entries: &mut Vec<u8>) -> Result<Line, Bad>
+        ensures { ReadsLine words.now cells.old.items cells.new.items entries.old.items entries.new.items result }
     {
         match *words {
             ["memory", table, scratch, walk] => Ok(Line::Memory {
@@ -40,21 +40,45 @@ impl Line {
                 scratch: number(scratch, 4096)?,
                 walk: number(walk, 4096)?,
             }),
-            ["open", ref term @ ..] => Ok(Line::Open(cells(heap, term)?)),
+            ["open", ref term @ ..] => Ok(Line::Open(words::cells(term, cells)?)),
             ["step", rule, argument, outer, inner] => Ok(Line::Step {
                 rule: rule.parse()?,
                 argument: argument.parse()?,
-                place: place(heap, outer)?,
-                inner: place(heap, inner)?,
+                place: place(outer, entries)?,
+                inner: place(inner, entries)?,
             }),
             ["settle", ticket, ref claim @ ..] => Ok(Line::Settle {
                 ticket: ticket.parse()?,
-                claim: cells(heap, claim)?,
+                claim: words::cells(claim, cells)?,
             }),
             ["withdraw", ticket] => Ok(Line::Withdraw(ticket.parse()?)),
             ["tell"] => Ok(Line::Tell),
             ["table", n] => Ok(Line::Table(number(n, 4096)?)),
             _ => Err(Bad::Text),
+        }
+    }
+
+    // Reads further words of the line, the cells that its term or its claim goes on with. They lie behind those before.
+    pub fn go_on(self, words: &[&str], cells: &mut Vec<u64>) -> Result<Line, Bad>
+        ensures { GoesOn words.now self cells.old.items cells.new.items result }
+    {
+        match self {
+            Line::Open(term) => Ok(Line::Open(Part {
+                start: term.start,
+                end: words::cells(words, cells)?.end,
+            })),
+            Line::Settle { ticket, claim } => Ok(Line::Settle {
+                ticket,
+                claim: Part {
+                    start: claim.start,
+                    end: words::cells(words, cells)?.end,
+                },
+            }),
+            Line::Memory { .. }
+            | Line::Step { .. }
+            | Line::Withdraw(_)
+            | Line::Tell
+            | Line::Table(_) => Err(Bad::Text),
         }
     }
 }

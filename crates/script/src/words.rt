@@ -3,7 +3,7 @@ ghost use Rattle.std.specs.Result.{OkIff};
 ghost use Rattle.script.specs.Words.{IsNumber, number_of, IsCell, cell_of, ReadsCells, ReadsPlace};
 
 use crate::fault::Bad;
-use std::alloc::Global;
+use crate::part::Part;
 
 // A number of at most so much.
 pub fn number(word: &str, most: usize) -> Result<usize, Bad>
@@ -25,27 +25,33 @@ pub fn cell(word: &str) -> Result<u64, Bad>
     Ok(u64::from_str_radix(word, 16)?)
 }
 
-// A cell for each word.
-pub fn cells(heap: Global, words: &[&str]) -> Result<Vec<u64>, Bad>
-    ensures { ReadsCells words.now result }
+// A cell for each word, behind the cells so far.
+pub fn cells(words: &[&str], cells: &mut Vec<u64>) -> Result<Part, Bad>
+    ensures { ReadsCells words.now cells.old.items cells.new.items result }
 {
-    let mut cells = Vec::new(heap);
+    let start = cells.len();
     for word in words {
         cells.push(cell(word)?)?;
     }
-    Ok(cells)
+    Ok(Part {
+        start,
+        end: cells.len(),
+    })
 }
 
-// A place: `-`, or entries with a dot between them.
-pub fn place(heap: Global, word: &str) -> Result<Vec<u8>, Bad>
-    ensures { ReadsPlace word.now result }
+// A place, behind the entries so far: `-`, or entries with a dot between them.
+pub fn place(word: &str, entries: &mut Vec<u8>) -> Result<Part, Bad>
+    ensures { ReadsPlace word.now entries.old.items entries.new.items result }
 {
+    let start = entries.len();
     if word == "-" {
-        return Ok(Vec::new(heap));
+        return Ok(Part { start, end: start });
     }
-    let mut entries = Vec::new(heap);
     for entry in word.split('.') {
         entries.push(entry.parse::<u8>()?)?;
     }
-    Ok(entries)
+    Ok(Part {
+        start,
+        end: entries.len(),
+    })
 }

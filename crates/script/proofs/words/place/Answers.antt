@@ -18,11 +18,11 @@ loop-entry-preserved c =
     let s = c.split-entry-items.ensures in
     let parts = YieldsList-at c.into_iter-entry-iterator.ensures.into_iter_gives (YieldsList-from_str_split 46 c.args.word.now (omega arith) s.text s.has_more s.pattern) in
     let t = YieldsList-turn parts c.loop-entry.yielded _ c.loop-entry.yielded_by _ _ c.in-Some.entry c.in-Some.is c.next.ensures.steps in
-    one_read (parts_of c.args.word.now) _ _ _ _ c.in-Some.entry.now c.in_ok-parse.field-0 c.loop-entry.invariant t (search rules) (length_push c.loop-entry.yielded c.in-Some.entry) (search rules) (search rules)
+    one_read (parts_of c.args.word.now) _ _ _ _ _ c.in-Some.entry.now c.in_ok-parse.field-0 c.loop-entry.invariant t (search rules) (length_push c.loop-entry.yielded c.in-Some.entry) (search rules) (search rules)
 
 pub returns : goal.returns
 returns c =
     let s = c.split-entry-items.ensures in
     let parts = YieldsList-at c.into_iter-entry-iterator.ensures.into_iter_gives (YieldsList-from_str_split 46 c.args.word.now (omega arith) s.text s.has_more s.pattern) in
     let t = YieldsList-end parts c.loop-entry.yielded _ c.loop-entry.yielded_by _ _ c.in-None.is c.next.ensures.steps in
-    all_read c.args.word.now _ (search rules) (subst (λ n. ReadTo (parts_of c.args.word.now) n c.loop-entry.entries.items) t.1 c.loop-entry.invariant)
+    all_read c.args.word.now _ _ _ _ (search rules) (subst (λ n. ReadTo (parts_of c.args.word.now) n c.args.entries.now.items c.loop-entry.entries.items) t.1 c.loop-entry.invariant) (search rules) (search rules)
