@@ -21,7 +21,16 @@ renamed_row {s} f x p k e ex =
     let tail = e.last in
     cc (is, ex, above, last, outer, tail)
 
--- The trees of s before those of q are renamed at the front of the list, n cells.
+last_row : {s i : Scope} {c : ℕ} {t : Row} (f : ℕ → ℕ) (x : ℕ) (p : Inner s c i) (k : Cut s c i t) → s.trees.n ≡ 1 → x ≡ renumber f i.d c → x ∷ flat (rename f i.d i.b k.ks) ≡ flat (rename f s.d s.b t)
+last_row {s} {i} f x p k e ex =
+    let above = k.above in
+    let last = p.last in
+    let none = no_trees (omega (arith, e)) k.others in
+    let end = append-nil (flat (rename f i.d i.b k.ks)) in
+    cc (k.is, ex, above, last, none, end)
+
+-- The cells of s before those of q are renamed at the front of the list, n cells. Those of q, whose binders may be
+-- others, are all that follows.
 pub record Begun (f : ℕ → ℕ) (s q : Scope) (out out' : List ℕ) (n : ℕ) : Type 0 where
   pub xs : List ℕ
   pub r : Row
@@ -58,22 +67,47 @@ module _ {f : ℕ → ℕ} {s q : Scope} {n : ℕ} {out out' : List ℕ} (v : Be
     pub put : (x : ℕ) → Fronts (v.xs ++ (x ∷ [])) out (set out' n x) (n + 1)
     put x = fronts_put v.wrote x (omega (arith, enough))
 
-    -- its cell and its children are written
-    module _ (x : ℕ) {m : ℕ} {part : List ℕ} (w : (ks : Row) → Are i.trees ks → Written (rename f i.d i.b ks) (take (length (set out' n x) - (n + 1)) (drop (n + 1) (set out' n x))) part m) where
-      pub kids : m ≡ size here.ks
-      kids = omega (arith, (w here.ks here.inner).count, rename_size f i.d i.b here.ks)
+    -- its cell is written, and behind it its children, if it has any
+    module _ (x : ℕ) where
+      abbrev pub Placed : List ℕ → ℕ → Type 0
+      Placed out2 m = Fronts ((v.xs ++ (x ∷ [])) ++ flat (rename f i.d i.b here.ks)) out out2 m
 
-      pub next_begun : {q' : Scope} → x ≡ renumber f i.d c → Rest q (s.trees.at + (n + (1 + m))) q' → Begun f s q' out (take (n + 1) (set out' n x) ++ (part ++ drop (length (set out' n x) - (n + 1)) (drop (n + 1) (set out' n x)))) (n + (1 + m))
-      next_begun {q'} ex e =
-          let ys = flat (rename f i.d i.b here.ks) in
-          let zs = flat (rename f q'.d q'.b here.r) in
-          let next : n + 1 + m ≡ n + (1 + m) = omega arith in
+      pub alone : i.trees.n ≡ 0 → Placed (set out' n x) (n + 1)
+      alone e =
+          let none = no_trees e here.inner in
+          subst (λ ys. Fronts ys out (set out' n x) (n + 1)) (sym (append-nil (v.xs ++ (x ∷ []))) ∙ sym (ap (λ u. (v.xs ++ (x ∷ [])) ++ flat (rename f i.d i.b u)) none)) (put x)
+
+      pub kids : {m : ℕ} {part : List ℕ} → ((ks : Row) → Are i.trees ks → Written (rename f i.d i.b ks) (take (length (set out' n x) - (n + 1)) (drop (n + 1) (set out' n x))) part m) → Placed (take (n + 1) (set out' n x) ++ (part ++ drop (length (set out' n x) - (n + 1)) (drop (n + 1) (set out' n x)))) (n + 1 + m)
+      kids w = fronts_next (put x) (fronts_row (w here.ks here.inner))
+
+      module _ {m : ℕ} {out2 : List ℕ} (w : Placed out2 m) where
+        pub placed : m ≡ n + 1 + size here.ks
+        placed = omega (arith, w.count, length-append (v.xs ++ (x ∷ [])) (flat (rename f i.d i.b here.ks)), (put x).count, flat_size (rename f i.d i.b here.ks), rename_size f i.d i.b here.ks)
+
+        -- then come the other trees
+        pub next_begun : {q' : Scope} → x ≡ renumber f i.d c → Rest q (s.trees.at + m) q' → Begun f s q' out out2 m
+        next_begun {q'} ex e =
+            let ys = flat (rename f i.d i.b here.ks) in
+            let zs = flat (rename f q'.d q'.b here.r) in
+            record {
+              xs = (v.xs ++ (x ∷ [])) ++ ys;
+              r = here.r;
+              stands = rest_are here e (omega (arith, placed, v.start));
+              cells = e.part.cells ∙ v.cells;
+              start = e.part.start;
+              wrote = w;
+              joins = ap (λ z. z ++ zs) (append_assoc v.xs (x ∷ []) ys) ∙ append_assoc v.xs (x ∷ ys) zs ∙ ap (λ z. v.xs ++ z) (renamed_row f x p here e ex) ∙ v.joins;
+            }
+
+      -- or, where it is the last tree, its children
+      pub last_begun : q.trees.n ≡ 1 → x ≡ renumber f i.d c → Begun f s i out (set out' n x) (n + 1)
+      last_begun e ex =
           record {
-            xs = (v.xs ++ (x ∷ [])) ++ ys;
-            r = here.r;
-            stands = rest_are here e (omega (arith, kids, v.start));
-            cells = e.part.cells ∙ v.cells;
-            start = e.part.start;
-            wrote = subst (λ k. Fronts ((v.xs ++ (x ∷ [])) ++ ys) out (take (n + 1) (set out' n x) ++ (part ++ drop (length (set out' n x) - (n + 1)) (drop (n + 1) (set out' n x)))) k) next (fronts_next (put x) (fronts_row (w here.ks here.inner)));
-            joins = ap (λ z. z ++ zs) (append_assoc v.xs (x ∷ []) ys) ∙ append_assoc v.xs (x ∷ ys) zs ∙ ap (λ z. v.xs ++ z) (renamed_row f x p here e ex) ∙ v.joins;
+            xs = v.xs ++ (x ∷ []);
+            r = here.ks;
+            stands = here.inner;
+            cells = p.part.cells ∙ v.cells;
+            start = omega (arith, here.starts, v.start);
+            wrote = put x;
+            joins = append_assoc v.xs (x ∷ []) (flat (rename f i.d i.b here.ks)) ∙ ap (λ z. v.xs ++ z) (last_row f x p here e ex) ∙ v.joins;
           }

@@ -6,15 +6,17 @@ use lib.ListN.{get_or-eq_default}
 use Rattle.std.proofs.lemmas.Bool.Decides.{nat_tests}
 use Rattle.std.proofs.lemmas.List.{get_or_append_left, get_or-append_right}
 use Rattle.terms.specs.Cells.{binder, payload, loose}
+use Rattle.terms.specs.Forest.{Are}
 use Rattle.terms.specs.Lists.{In}
 use Rattle.terms.specs.Rows.{Row, size, above, own, frees}
 use Rattle.terms.specs.Rows.Row.{none, node}
 use Rattle.terms.proofs.Moves.{in_row, in_own, in_kids, in_next}
+use Rattle.terms.proofs.Standings.{standing, stands_same}
 use Rattle.moves.specs.declared.scope.Scope.{Scope}
 use Rattle.moves.specs.Renamings.{free}
 use Rattle.moves.specs.Occurrences.{numbers, Occurs, Searched, FirstFree}
 use Rattle.moves.specs.Scopes.{Inner, Rest}
-use Rattle.moves.proofs.Scopes.{Cut}
+use Rattle.moves.proofs.Scopes.{row, Cut, cut, rest_are, no_trees}
 
 -- what the test of a free number says
 pub is_number : (o : Option ℕ) (x : ℕ) {q : Bool} → q ≡ option_eq eqb o (Some x) → q ≡ true → o ≡ Some x
@@ -152,6 +154,52 @@ module _ {s i : Scope} {c : ℕ} {t : Row} (p : Inner s c i) (k : Cut s c i t) (
             (suc (size k.ks + m), omega (arith, f.0, is, k.starts), subst (λ u. Occurs x s.d s.b u (suc (size k.ks + m))) (sym k.is) (found_next x s.d s.b c k.ks k.r (other_cell h) below m w))
         go (Ok e) w =
             (omega (arith, f.0, w.0, k.sized, k.starts), subst (λ u. In x (frees s.d s.b u) → ⊥) (sym k.is) (not_found x s.d s.b c k.ks k.r (other_cell h) below w.1))
+
+-- The trees of S before those of q, of the row r, do not have x: what is found in the row is what is found in all.
+pub record Sought (x : ℕ) (S q : Scope) : Type 0 where
+  pub r : Row
+  pub stands : Are q.trees r
+  pub cells : q.trees.cells.now ≡ S.trees.cells.now
+  pub start : S.trees.at ≤ q.trees.at
+  pub onward : (res : Result ℕ ℕ) → Searched x q.d q.b r q.trees.at res → Searched x S.d S.b (row S) S.trees.at res
+
+pub seek : (x : ℕ) (S : Scope) → Sought x S S
+seek x S = record { r = row S; stands = (standing S.trees.standing).1; cells = refl; start = omega arith; onward = λ res w. w }
+
+module _ {x : ℕ} {S q : Scope} (v : Sought x S q) where
+  found_in : (res : Result ℕ ℕ) → Searched x q.d q.b v.r q.trees.at res → (t : Row) → Are S.trees t → Searched x S.d S.b t S.trees.at res
+  found_in res w t a =
+      subst (λ u. Searched x S.d S.b u S.trees.at res) (stands_same (standing S.trees.standing).1 a) (v.onward res w)
+
+  -- there are no others
+  pub all_sought : q.trees.n ≡ 0 → (t : Row) → Are S.trees t → Searched x S.d S.b t S.trees.at (Ok q.trees.at)
+  all_sought e =
+      let none = no_trees e v.stands in
+      found_in (Ok q.trees.at) (omega (arith, ap size none), λ i. subst (λ u. In x (frees q.d q.b u)) none i)
+
+  -- or a first one
+  module _ {i : Scope} {c : ℕ} (p : Inner q c i) where
+    pub next_tree : Cut q c i v.r
+    next_tree = cut p v.stands
+
+    pub sought_here : free i.d c ≡ Some x → (t : Row) → Are S.trees t → Searched x S.d S.b t S.trees.at (Err q.trees.at)
+    sought_here h = found_in (Err q.trees.at) (searched_here p next_tree x h)
+
+    module _ (h : free i.d c ≡ Some x → ⊥) where
+      pub sought_kids : (j : ℕ) → ((ks : Row) → Are i.trees ks → Searched x i.d i.b ks i.trees.at (Err j)) → (t : Row) → Are S.trees t → Searched x S.d S.b t S.trees.at (Err j)
+      sought_kids j f = found_in (Err j) (searched_kids p next_tree x h j (f next_tree.ks next_tree.inner))
+
+      pub next_sought : {next : ℕ} {q' : Scope} → ((ks : Row) → Are i.trees ks → Searched x i.d i.b ks i.trees.at (Ok next)) → Rest q next q' → Sought x S q'
+      next_sought {next} {q'} f e =
+          let k = next_tree in
+          let g = f k.ks k.inner in
+          record {
+            r = k.r;
+            stands = rest_are k e (omega (arith, g.0, k.starts));
+            cells = e.part.cells ∙ v.cells;
+            start = omega (arith, e.part.start, g.0, k.starts, v.start);
+            onward = λ res w. v.onward res (searched_next p k x h res e g w);
+          }
 
 -- the first cell alone
 pub first_found : (x d b at : ℕ) (t : Row) (r : Result ℕ ℕ) {o : Option ℕ} → o ≡ result_err r → Searched x d b t at r → FirstFree x d b t at o

@@ -192,6 +192,56 @@ pub blanks_sizes : (how : Substitution) → Sizes how (blanks how)
 unfolding blanks
 blanks_sizes how n = sym (blank_size (extent (image_of how n)))
 
+-- The trees of S before those of q, of the row r, leave so much of the room, with trees put for their free variables:
+-- what the row takes of that, all take of the room.
+pub record Spending (how : Substitution) (S q : Scope) (room left : ℕ) : Type 0 where
+  pub r : Row
+  pub stands : Are q.trees r
+  pub cells : q.trees.cells.now ≡ S.trees.cells.now
+  pub start : S.trees.at ≤ q.trees.at
+  pub onward : (s : ℕ → Row) → Sizes how s → (res : Option (ℕ × ℕ)) → Spent (q.trees.at + size r) (size (substitute s q.d q.b r)) left res → Spent (S.trees.at + size (row S)) (size (substitute s S.d S.b (row S))) room res
+
+pub spend : (how : Substitution) (S : Scope) (room : ℕ) → Spending how S S room room
+spend how S room =
+    record { r = row S; stands = (standing S.trees.standing).1; cells = refl; start = omega arith; onward = λ s z res w. w }
+
+module _ {how : Substitution} {S q : Scope} {room left : ℕ} (v : Spending how S q room left) where
+  spent_in : (s : ℕ → Row) → Sizes how s → (res : Option (ℕ × ℕ)) → Spent (q.trees.at + size v.r) (size (substitute s q.d q.b v.r)) left res → (t : Row) → Are S.trees t → Spent (S.trees.at + size t) (size (substitute s S.d S.b t)) room res
+  spent_in s z res w t a =
+      subst (λ u. Spent (S.trees.at + size u) (size (substitute s S.d S.b u)) room res) (stands_same (standing S.trees.standing).1 a) (v.onward s z res w)
+
+  -- there are no others
+  pub all_spent : q.trees.n ≡ 0 → (t : Row) (s : ℕ → Row) → Are S.trees t → Sizes how s → Spent (S.trees.at + size t) (size (substitute s S.d S.b t)) room (Some (q.trees.at, left))
+  all_spent e t s a z =
+      let none = no_trees e v.stands in
+      spent_in s z (Some (q.trees.at, left)) (omega (arith, ap size none), omega (arith, ap (λ u. size (substitute s q.d q.b u)) none)) t a
+
+  -- or a first one
+  module _ {i : Scope} {c : ℕ} (p : Inner q c i) where
+    pub next_tree : Cut q c i v.r
+    next_tree = cut p v.stands
+
+    -- for which too little is left
+    pub first_unspent : ((ks : Row) (s : ℕ → Row) → Are i.trees ks → Sizes how s → Spent (i.trees.at + size ks) (size (substitute s i.d 0 (node c ks none))) left None) → (t : Row) (s : ℕ → Row) → Are S.trees t → Sizes how s → Spent (S.trees.at + size t) (size (substitute s S.d S.b t)) room None
+    first_unspent f t s a z = spent_in s z None (spent_none next_tree s (f next_tree.ks s next_tree.inner z)) t a
+
+    -- or enough
+    module _ {next : ℕ} (more : ℕ) (f : (ks : Row) (s : ℕ → Row) → Are i.trees ks → Sizes how s → Spent (i.trees.at + size ks) (size (substitute s i.d 0 (node c ks none))) left (Some (next, more))) where
+      pub first_ends : (ks : Row) → Are i.trees ks → next ≡ i.trees.at + size ks
+      first_ends ks a = (f ks (blanks how) a (blanks_sizes how)).0
+
+      pub next_spending : {q' : Scope} → Rest q next q' → Spending how S q' room more
+      next_spending {q'} e =
+          let k = next_tree in
+          let ends = first_ends k.ks k.inner in
+          record {
+            r = k.r;
+            stands = rest_are k e (omega (arith, ends, k.starts));
+            cells = e.part.cells ∙ v.cells;
+            start = omega (arith, e.part.start, ends, k.starts, v.start);
+            onward = λ s z res w. v.onward s z res (spent_row k s more res e (f k.ks s k.inner z) w);
+          }
+
 -- the tree that stands for a number, by what was found for it
 pub shown_by : (how : Substitution) (s : ℕ → Row) (n : ℕ) (i : Image) → i ≡ image_of how n → Shows how s → Shown i (s n)
 shown_by how s n i e h = subst (λ j. Shown j (s n)) (sym e) (h n)

@@ -11,14 +11,15 @@ use terms::forest::Trees;
 pub fn search(scope: Scope, x: u64) -> Result<usize, usize>
     ensures { (t : Row) → Are scope.entry.trees t → Searched x scope.entry.d scope.entry.b t scope.entry.trees.at result }
 {
-    let Some((c, inner)) = scope.first() else {
-        return Ok(scope.trees.at);
-    };
-    if free_number(c, inner.d) == Some(x) {
-        return Err(scope.trees.at);
+    let mut rest = scope;
+    while let Some((c, inner)) = rest.first() {
+        if free_number(c, inner.d) == Some(x) {
+            return Err(rest.trees.at);
+        }
+        let next = search(inner, x)?;
+        rest = rest.others(next);
     }
-    let next = search(inner, x)?;
-    search(scope.others(next), x)
+    Ok(rest.trees.at)
 }
 
 // The first cell at which the free variable x occurs among trees.

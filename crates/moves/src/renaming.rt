@@ -80,8 +80,15 @@ pub fn rename_scope(scope: Scope, how: Renaming, out: &mut [u64]) -> usize
     let mut count = 0;
     while let Some((c, inner)) = rest.first() {
         out[count] = renumber(c, how, inner.d);
-        let kids = rename_scope(inner, how, &mut out[count + 1..]);
-        count += 1 + kids;
+        count += 1;
+        if rest.trees.n == 1 {
+            // Behind the children of the last tree nothing is left.
+            rest = inner;
+            continue;
+        }
+        if inner.trees.n > 0 {
+            count += rename_scope(inner, how, &mut out[count..]);
+        }
         rest = rest.others(scope.trees.at + count);
     }
     count

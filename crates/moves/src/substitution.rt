@@ -17,11 +17,14 @@ use terms::forest::Trees;
 pub fn count_scope(scope: Scope, how: Substitution, room: usize) -> Option<(usize, usize)>
     ensures { (t : Row) (s : ℕ → Row) → Are scope.entry.trees t → Sizes how.entry s → Spent (scope.entry.trees.at + size t) (size (substitute s scope.entry.d scope.entry.b t)) room result }
 {
-    let Some((c, inner)) = scope.first() else {
-        return Some((scope.trees.at, room));
-    };
-    let (next, left) = count_first(c, inner, how, room)?;
-    count_scope(scope.others(next), how, left)
+    let mut rest = scope;
+    let mut left = room;
+    while let Some((c, inner)) = rest.first() {
+        let (next, more) = count_first(c, inner, how, left)?;
+        left = more;
+        rest = rest.others(next);
+    }
+    Some((rest.trees.at, left))
 }
 
 // The same of one tree, by its cell and its children.

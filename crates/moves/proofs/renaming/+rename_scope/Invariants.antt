@@ -10,4 +10,4 @@ abbrev pub invariant-loop-c : goal.invariant-loop-c
 invariant-loop-c l = Begun (renamed l.how) l.scope l.rest l.fn.out l.out l.count
 
 abbrev pub decreases-loop-c : goal.decreases-loop-c
-decreases-loop-c l = l.rest.trees.n
+decreases-loop-c l = length l.rest.trees.cells.now - l.rest.trees.at

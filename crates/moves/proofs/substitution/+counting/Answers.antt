@@ -1,43 +1,35 @@
 use Rattle.std.proofs.Common.{length, ap, ◌∙◌, arith}
-use Rattle.terms.specs.Rows.{size, substitute}
-use Rattle.terms.proofs.Standings.{standing}
 use Rattle.moves.specs.Images.{extent}
-use Rattle.moves.proofs.Scopes.{cut, ended, rest_are, no_trees}
-use Rattle.moves.proofs.Substitutes.{hit_size, spent_miss, spent_row, spent_none, blanks, blanks_sizes}
+use Rattle.moves.proofs.Scopes.{ended}
+use Rattle.moves.proofs.Substitutes.{hit_size, spent_miss, spend, all_spent, next_tree, first_unspent, first_ends, next_spending}
 use Rattle.moves.proofs.substitution.+counting.Goals as goal
 
-pub count_scope-returns-in_default : goal.count_scope-returns-in_default
-count_scope-returns-in_default t c = λ u s a z.
-    let e = no_trees c.in_default.ensures a in
-    (omega (arith, ap size e), omega (arith, ap (λ v. size (substitute s c.args.scope.d c.args.scope.b v)) e))
+pub count_scope-loop-c-init : goal.count_scope-loop-c-init
+count_scope-loop-c-init t c = spend c.args.how c.args.scope c.args.room
 
 pub count_scope-count_first-requires : goal.count_scope-count_first-requires
 count_scope-count_first-requires t c =
     let p = c.in-Some.ensures in
-    let k = cut p (standing c.args.scope.trees.standing).1 in
-    (omega (arith, ap length p.part.cells, k.starts, k.within, k.sized), p.last)
+    let v = c.loop-c.invariant in
+    let k = next_tree c.loop-c.invariant c.in-Some.ensures in
+    (omega (arith, ap length p.part.cells, ap length v.cells, v.start, k.starts, k.within, k.sized), p.last)
 
 pub count_scope-returns-in_err-next : goal.count_scope-returns-in_err-next
-count_scope-returns-in_err-next t c = λ u s a z.
-    let k = cut c.in-Some.ensures a in
-    rw c.from_residual.ensures (spent_none k s (c.in_err-next.ensures k.ks s k.inner z))
+count_scope-returns-in_err-next t c =
+    rw c.from_residual.ensures (first_unspent c.loop-c.invariant c.in-Some.ensures c.in_err-next.ensures)
 
-pub count_scope-others-requires-clause-ended : goal.count_scope-others-requires-clause-ended
-count_scope-others-requires-clause-ended t c =
-    ended c.in-Some.ensures (λ ks a. omega (arith, (c.in_ok-next.ensures ks (blanks c.args.how) a (blanks_sizes c.args.how)).0, c.in-Some.ensures.part.start))
+pub count_scope-others-rest-requires-clause-ended : goal.count_scope-others-rest-requires-clause-ended
+count_scope-others-rest-requires-clause-ended t c =
+    ended c.in-Some.ensures (λ ks a. omega (arith, first_ends c.loop-c.invariant c.in-Some.ensures _ c.in_ok-next.ensures ks a, c.in-Some.ensures.part.start))
 
-pub count_scope-count_scope-requires : goal.count_scope-count_scope-requires
-count_scope-count_scope-requires t c =
-    let k = cut c.in-Some.ensures (standing c.args.scope.trees.standing).1 in
-    let e = c.others.ensures in
-    let f = c.in_ok-next.ensures k.ks (blanks c.args.how) k.inner (blanks_sizes c.args.how) in
-    (omega (arith, ap length e.part.cells, e.part.start, f.0, k.starts, k.within, k.sized), tt)
+pub count_scope-loop-c-smaller : goal.count_scope-loop-c-smaller
+count_scope-loop-c-smaller t c = omega (arith, c.in-Some.ensures.some, c.others-rest.ensures.part.count)
+
+pub count_scope-loop-c-preserved : goal.count_scope-loop-c-preserved
+count_scope-loop-c-preserved t c = next_spending c.loop-c.invariant c.in-Some.ensures _ c.in_ok-next.ensures c.others-rest.ensures
 
 pub count_scope-returns : goal.count_scope-returns
-count_scope-returns t c = λ u s a z.
-    let k = cut c.in-Some.ensures a in
-    let f = c.in_ok-next.ensures k.ks s k.inner z in
-    spent_row k s _ _ c.others.ensures f (c.count_scope.ensures k.r s (rest_are k c.others.ensures (omega (arith, f.0, k.starts))) z)
+count_scope-returns t c = all_spent c.loop-c.invariant c.in_default.ensures
 
 pub count_first-returns-in_err-left-in-Some : goal.count_first-returns-in_err-left-in-Some
 count_first-returns-in_err-left-in-Some t c = λ ks s a z.
