@@ -1,8 +1,8 @@
 -- A program rule and a redex: the rule's parts, where they stand, and when the redex is a call of it. Assumes nothing.
-use Rattle.std.proofs.Common.{◌≡◌, ℕ, ◌+◌, ◌-◌, ◌<◌, ◌≤◌, true, false, cond, ◌⊎◌, List, [], ◌∷◌, ◌++◌, length, get_or, take, drop, sym, refl, ap, ◌∙◌, subst, inl, inr, ⊎_elim, append-nil, arith}
+use Rattle.std.proofs.Common.{◌≡◌, ℕ, ◌+◌, ◌-◌, ◌<◌, ◌≤◌, Bool, true, false, cond, ◌⊎◌, List, [], ◌∷◌, ◌++◌, length, get_or, take, drop, sym, refl, ap, ◌∙◌, subst, inl, inr, ⊎_elim, append-nil, length-append, arith}
 use Rattle.std.proofs.lemmas.Bool.Decides.{nat_tests}
 use Rattle.terms.specs.Cells.{kind, binder, children, zeros, payload, cell, loose}
-use Rattle.terms.specs.Rows.{Row, flat, size, width, frees, fvs, Free, Layout, Counted, substitute, pick}
+use Rattle.terms.specs.Rows.{Row, flat, size, width, frees, fvs, above, own, Free, Layout, Counted, substitute, pick}
 use Rattle.terms.specs.Rows.Row.{none, node}
 use Rattle.terms.specs.Standing.{Stands}
 use Rattle.terms.proofs.Inject.{top, under, inj-&}
@@ -64,6 +64,22 @@ fun_free f p l w =
     let b : binder (cell 33 0 (width p) f) ≡ 0 = omega arith in
     ap (λ t. cond t ((payload (cell 33 0 (width p) f) - 0) ∷ []) [] ++ (frees 0 (binder (cell 33 0 (width p) f)) p ++ [])) k ∙ ap (λ n. frees 0 n p ++ []) b ∙ append-nil (fvs p)
 
+-- a row has no more free variables than cells
+frees_size : (d b : ℕ) (t : Row) → length (frees d b t) ≤ size t
+frees_size d b none = omega arith
+frees_size d b (node c ks r) =
+    let p = above d b r in
+    let h = frees_size p (binder c) ks in
+    let i = frees_size d b r in
+    let j = length-append (own p c) (frees p (binder c) ks ++ frees d b r) in
+    let k = length-append (frees p (binder c) ks) (frees d b r) in
+    let o = one (loose p c) in
+    omega arith
+  where
+    one : (h : Bool) → length (cond h ((payload c - above d b r) ∷ []) []) ≤ 1
+    one true = omega arith
+    one false = omega arith
+
 -- The parts of a program rule with these cells, the right side from a cell on.
 pub record Parted (t : Row) (rule : List ℕ) (right : ℕ) : Type 0 where
   pub f : ℕ
@@ -82,6 +98,11 @@ pub record Parted (t : Row) (rule : List ℕ) (right : ℕ) : Type 0 where
   pub once : EachOnce (fvs p)
   pub few : length (fvs p) ≤ 1024
   pub below : (x : ℕ) → Free x r → x < length (fvs p)
+
+-- as many bindings as the patterns have cells are enough, and so are 1,024
+pub enough : {t : Row} {rule : List ℕ} {right : ℕ} (q : Parted t rule right) (most : ℕ) → (right ≤ 2 + most) ⊎ (most ≡ 1024) → length (fvs q.p) ≤ most
+enough q most (inl h) = omega (arith, h, q.right_is, frees_size 0 0 q.p)
+enough q most (inr h) = omega (arith, h, q.few)
 
 module _ {t : Row} {rule : List ℕ} (g : ProgramRule t) (e : flat t ≡ rule) where
   whole : Stands (arrow g.l g.r) 1 rule 0
@@ -168,13 +189,13 @@ module _ {t ρ : Row} {redex rule : List ℕ} {right : ℕ} (s : TermAt t redex 
       let v = symbol_fields 33 (width q.p) q.f q.narrow q.low in
       applied_of t q.f q.p s (subst (λ n. (kind n ≡ 33) ⊎ (kind n ≡ 34)) (sym e) h.0) (ap payload e ∙ h.1 ∙ ap payload q.head ∙ v.2) (ap children e ∙ h.2 ∙ ap children q.head ∙ v.1)
 
-  pub facing : (a : Applied t redex q.f q.p) (patterns terms : List ℕ) (most : ℕ) → patterns ≡ take (right - 2) (drop 2 rule) → terms ≡ take (length redex - 1) (drop 1 redex) → most ≡ 1024 → Facing q.p a.ts patterns terms most
+  pub facing : (a : Applied t redex q.f q.p) (patterns terms : List ℕ) (most : ℕ) → patterns ≡ take (right - 2) (drop 2 rule) → terms ≡ take (length redex - 1) (drop 1 redex) → length (fvs q.p) ≤ most → Facing q.p a.ts patterns terms most
   facing a patterns terms most e f m =
       record {
         lawful = q.patterns;
         reads = sym q.reads ∙ sym e;
         once = q.once;
-        few = omega (arith, q.few);
+        few = m;
         letters = a.terms;
         stands = subst (λ l. Stands a.ts (width q.p) l 0) (sym (f ∙ part_is redex 1)) (stands_dropped a.stands);
       }
