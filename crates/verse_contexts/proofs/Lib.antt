@@ -3,3 +3,4 @@ pub mod Plugs
 pub mod Openings
 pub mod Walkings
 pub mod Branches
+pub mod Reaches

@@ -35,27 +35,40 @@ impl Way {
 pub fn down(way: Way, expression: Trees, inner: &[u8]) -> Option<usize>
     ensures { (t : Row) → Exp t → Are expression.entry t → Walked (Goes way) inner.now t expression.entry.at result }
 {
-    let Some((&entry, rest)) = inner.split_first() else {
-        return Some(expression.at);
-    };
-    let (c, parts) = expression.first()?;
-    let part = first(parts)?;
-    let Ok(kind_of) = Kind::try_from(kind(c)) else {
-        return None;
-    };
-    match (kind_of, entry) {
-        (Kind::Sequence, 0) => {
-            let (head, below) = part.first()?;
-            if kind(head) != Kind::Equation as u8 {
-                return down(way, part, rest);
+    let mut hole = expression;
+    let mut left = inner;
+    while let Some((&entry, rest)) = left.split_first() {
+        let (c, parts) = hole.first()?;
+        let part = first(parts)?;
+        let Ok(kind_of) = Kind::try_from(kind(c)) else {
+            return None;
+        };
+        match (kind_of, entry) {
+            (Kind::Sequence, 0) => {
+                let (head, below) = part.first()?;
+                if kind(head) != Kind::Equation as u8 {
+                    hole = part;
+                    left = rest;
+                } else {
+                    match rest {
+                        [1, rest @ ..] => {
+                            hole = second(below)?;
+                            left = rest;
+                        }
+                        _ => return None,
+                    }
+                }
             }
-            match rest {
-                [1, rest @ ..] => down(way, second(below)?, rest),
-                _ => None,
+            (Kind::Sequence, 1) if way.passes(part) => {
+                hole = second(parts)?;
+                left = rest;
             }
+            (Kind::Exists, 0) if way == Way::Choice => {
+                hole = part;
+                left = rest;
+            }
+            _ => return None,
         }
-        (Kind::Sequence, 1) if way.passes(part) => down(way, second(parts)?, rest),
-        (Kind::Exists, 0) if way == Way::Choice => down(way, part, rest),
-        _ => None,
     }
+    Some(hole.at)
 }

@@ -35,16 +35,21 @@ fn down_choice(expression: Trees, inner: &[u8]) -> Option<Branch>
 pub fn down_choices(expression: Trees, inner: &[u8]) -> Option<Branch>
     ensures { (t : Row) → Exp t → Are expression.entry t → Branched SC inner.now t expression.entry.at result }
 {
-    let (c, parts) = expression.first()?;
-    if kind(c) != Kind::Choice as u8 {
-        return down_choice(expression, inner);
+    let mut scope = expression;
+    let mut left = inner;
+    while let Some((&entry, rest)) = left.split_first() {
+        let (c, parts) = scope.first()?;
+        if kind(c) != Kind::Choice as u8 {
+            return down_choice(scope, left);
+        }
+        scope = match entry {
+            0 => first(parts)?,
+            1 => second(parts)?,
+            _ => return None,
+        };
+        left = rest;
     }
-    match inner {
-        [] => down_choice(expression, inner),
-        [0, rest @ ..] => down_choices(first(parts)?, rest),
-        [1, rest @ ..] => down_choices(second(parts)?, rest),
-        _ => None,
-    }
+    down_choice(scope, left)
 }
 
 // Is the cell a one or an all?

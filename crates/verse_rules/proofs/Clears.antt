@@ -1,14 +1,16 @@
 -- Where a variable lies under tuples. Assumes nothing.
-use Rattle.std.proofs.Common.{◌≡◌, ℕ, ◌+◌, ◌-◌, ◌≤◌, length, Bool, true, false, not, ◌&&◌, ◌||◌, eqb, is_some, Some, None, Decides, Option, sym, refl, ap, ◌∙◌, arith}
+use Rattle.std.proofs.Common.{◌≡◌, ℕ, ◌+◌, ◌-◌, ◌≤◌, length, Bool, true, false, not, ◌&&◌, ◌||◌, eqb, is_some, Some, None, Decides, Option, sym, refl, ap, ◌∙◌, subst, arith}
 use mathlib.Core.Bool.{false≢true}
 use Rattle.std.proofs.lemmas.Bool.{eq-eqb, ne_eqb, eqb-true}
 use Rattle.moves.proofs.Scopes.{part_are}
 use Rattle.terms.specs.Cells.{kind, children, cell}
-use Rattle.terms.specs.Forest.{Are, Headed}
+use Rattle.terms.specs.Forest.{Are, Part, Headed}
 use Rattle.terms.specs.Standing.{Stands}
 use Rattle.terms.specs.declared.forest.Trees.{Trees}
 use Rattle.terms.specs.Rows.{Row, size}
 use Rattle.terms.specs.Rows.Row.{node}
+use Rattle.terms.proofs.Inject.{empty}
+use Rattle.terms.proofs.Standings.{standing, stands_same}
 use Rattle.terms.proofs.Steps.{opened, moved}
 use Rattle.verse.specs.Syntax.{Val}
 use Rattle.verse.specs.Contexts.{lies}
@@ -67,6 +69,56 @@ cut {trees} {below} {c} {t} (some, e, part) s =
       starts = part.start;
       others = o.others;
     }
+
+-- The trees before the rest, a row r, do not have x: where it lies in the row, it lies in all.
+pub record Clearing (x : ℕ) (trees rest : Trees) : Type 0 where
+  pub r : Row
+  pub stands : Are rest r
+  pub cells : length rest.cells.now ≡ length trees.cells.now
+  pub start : trees.at ≤ rest.at
+  pub onward : (t : Row) → Are trees t → (o : Option ℕ) → Clear x r rest.at o → Clear x t trees.at o
+
+pub clearing : (x : ℕ) (trees : Trees) → Clearing x trees trees
+clearing x trees =
+    let s = standing trees.standing in
+    record {
+      r = s.0;
+      stands = s.1;
+      cells = refl;
+      start = omega arith;
+      onward = λ t a o w. subst (λ u. Clear x u trees.at o) (stands_same s.1 a) w;
+    }
+
+module _ {x : ℕ} {trees rest : Trees} (v : Clearing x trees rest) where
+  -- there are no others
+  pub all_clear : rest.n ≡ 0 → (t : Row) → Are trees t → Clear x t trees.at (Some rest.at)
+  all_clear e t a =
+      let none = empty v.r (v.stands.wide ∙ e) in
+      v.onward t a (Some rest.at) (ap (lies x) none, omega (arith, ap size none))
+
+  -- or a first one
+  module _ {below : Trees} {c : ℕ} (h : Headed rest (Some (c, below))) where
+    pub next_tree : Cut rest c below v.r
+    next_tree = cut h v.stands
+
+    pub found_here : c ≡ cell 0 0 0 x → (t : Row) → Are trees t → Clear x t trees.at None
+    found_here i t a = let k = next_tree in v.onward t a None (lies_here x c v.r k.ks k.r k.is i)
+
+    pub found_under : kind c ≡ 3 → ((ks : Row) → Are below ks → Clear x ks below.at None) → (t : Row) → Are trees t → Clear x t trees.at None
+    found_under i f t a = let k = next_tree in v.onward t a None (lies_under x c v.r k.ks k.r k.is i (f k.ks k.inner))
+
+    pub next_clear : {part : Trees} (next : ℕ) → (c ≡ cell 0 0 0 x → ⊥) → ((ks : Row) → Are below ks → (next ≡ below.at + size ks) × (kind c ≡ 3 → lies x ks ≡ false)) → Part rest next (rest.n - 1) part → Clearing x trees part
+    next_clear {part} next i f e =
+        let k = next_tree in
+        let d = f k.ks k.inner in
+        let ends : next ≡ rest.at + 1 + size k.ks = omega (arith, d.0, k.starts) in
+        record {
+          r = k.r;
+          stands = part_are e (moved k.others refl ends);
+          cells = ap length e.cells ∙ v.cells;
+          start = omega (arith, e.start, ends, v.start);
+          onward = λ t a o w. v.onward t a o (clear_beyond x rest.at part.at c v.r k.ks k.r k.is i d.1 (e.start ∙ ends) o w);
+        }
 
 -- the test of a value
 pub held : (x at : ℕ) (v : Row) (o : Option ℕ) (r : Bool) → Word x → Val v → Clear x v at o → is_some o ≡ not r → Decides r (Holds x v)

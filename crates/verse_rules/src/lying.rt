@@ -38,18 +38,19 @@ pub fn early(part: &[u64], x: u32) -> bool
 fn clear_of(trees: Trees, x: u32) -> Option<usize>
     ensures { (t : Row) → Are trees.entry t → Clear x t trees.entry.at result }
 {
-    let Some((c, below)) = trees.first() else {
-        return Some(trees.at);
-    };
-    if c == variable_cell(x) {
-        return None;
+    let mut rest = trees;
+    while let Some((c, below)) = rest.first() {
+        if c == variable_cell(x) {
+            return None;
+        }
+        let next = if kind(c) == Kind::Tuple as u8 {
+            clear_of(below, x)?
+        } else {
+            below.end()
+        };
+        rest = rest.others(next);
     }
-    let next = if kind(c) == Kind::Tuple as u8 {
-        clear_of(below, x)?
-    } else {
-        below.end()
-    };
-    clear_of(trees.others(next), x)
+    Some(rest.at)
 }
 
 // Is the value x, or does x lie in it under tuples and nothing else?

@@ -5,9 +5,9 @@ use Rattle.terms.specs.Cells.{kind, children, cell}
 use Rattle.terms.specs.Rows.{Row, size, ◌&◌}
 use Rattle.terms.specs.Rows.Row.{none, node}
 use Rattle.terms.specs.Standing.{Stands}
-use Rattle.terms.proofs.Inject.{top, under, next}
+use Rattle.terms.proofs.Inject.{top, under, next, empty}
 use Rattle.terms.proofs.Steps.{opened, moved, stands_first}
-use Rattle.verse.specs.Syntax.{Sort, plain, admits, kids, Lawful, Exp, Equ}
+use Rattle.verse.specs.Syntax.{Sort, plain, admits, kids, Lawful, Exp, Equ, fail}
 use Rattle.verse.specs.Syntax.Sort.{val, exp, equ}
 use Rattle.verse_terms.specs.Forms.{equated, joined}
 use Rattle.verse_terms.proofs.Counts.{Form, a_leaf, a_tuple, a_lambda, an_application, a_sequence, an_equation, a_join, form_of}
@@ -57,6 +57,9 @@ one_form c h k = grind (arith, nat_tests)
 
 all_form : (c : ℕ) → joined c ≡ true → kind c ≡ 12 → c ≡ cell 12 0 1 0
 all_form c h k = grind (arith, nat_tests)
+
+fail_form : (c : ℕ) → joined c ≡ true → kind c ≡ 9 → c ≡ cell 9 0 0 0
+fail_form c h k = grind (arith, nat_tests)
 
 -- two children, one beside the other
 pub record Pair (s₁ s₂ : Sort) (c : ℕ) (t : Row) (cells : List ℕ) (at : ℕ) : Type 0 where
@@ -142,6 +145,12 @@ module _ {t : Row} {at : ℕ} {cells : List ℕ} (s : Sort) (st : Stands t 1 cel
 
   pub all_part : kind (get_or cells at 0) ≡ 12 → Only exp (cell 12 0 1 0) t cells at
   all_part k = one_of exp (cell 12 0 1 0) (all_form (get_or cells at 0) (joined_here (omega (arith, k))) k) refl (kids_of s (cell 12 0 1 0) 12 refl)
+
+  pub fail_here : kind (get_or cells at 0) ≡ 9 → t ≡ fail
+  fail_here k =
+      let e = fail_form (get_or cells at 0) (joined_here (omega (arith, k))) k in
+      let n : children (get_or cells at 0) ≡ 0 = ap children e in
+      (rooted st).is ∙ ap (node (get_or cells at 0) (rooted st).ks) refl ∙ ap (λ x. node (get_or cells at 0) x none) (empty (rooted st).ks ((rooted st).first.wide ∙ n)) ∙ ap (λ x. node x none none) e
 
 -- what a sequence begins with, if it is no equation
 pub no_equation : {q : Row} {at : ℕ} {cells : List ℕ} → Stands q 1 cells at → Equ q → (kind (get_or cells at 0) ≡ 7 → ⊥) → Exp q

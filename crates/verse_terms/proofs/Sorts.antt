@@ -1,5 +1,5 @@
 -- The grammar of the Verse calculus: each sort has a tree, and which cells a sort admits with which children.
-use Rattle.std.proofs.Common.{◌≡◌, ℕ, true, false, ◌||◌, List, [], ◌∷◌, replicate, sym, refl, ap, ◌∙◌, ⊎_elim, arith}
+use Rattle.std.proofs.Common.{◌≡◌, ℕ, zero, suc, ◌≤◌, true, false, ◌||◌, List, [], ◌∷◌, replicate, sym, refl, ap, ◌∙◌, ⊎_elim, arith}
 use Rattle.std.proofs.lemmas.Bool.{or_cases}
 use Rattle.std.proofs.lemmas.Bool.Decides.{nat_tests}
 use Rattle.std.proofs.Math.Bool.{or-true, or-false}
@@ -31,6 +31,15 @@ plain_kids s k b n c h =
     kids_of s c k e ∙ ap (children_of k) f
 
 -- What each form's children are.
+no_kids : (k n : ℕ) → k ≤ 2 → children_of k n ≡ []
+no_kids zero n h = refl
+no_kids (suc zero) n h = refl
+no_kids (suc (suc zero)) n h = refl
+no_kids (suc (suc (suc k))) n h = absurd (omega arith)
+
+pub leaf_kids : (s : Sort) (c : ℕ) → leaf c ≡ true → kids s c ≡ []
+leaf_kids s c h = let k : kind c ≤ 2 = grind (arith, nat_tests) in kids_of s c (kind c) refl ∙ no_kids (kind c) (children c) k
+
 pub tuple_kids : (s : Sort) (c : ℕ) → tupled c ≡ true → kids s c ≡ replicate (children c) val
 tuple_kids s c h = let k : kind c ≡ 3 = grind (arith, nat_tests) in kids_of s c 3 k
 

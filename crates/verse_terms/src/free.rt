@@ -38,8 +38,12 @@ fn is_tree_free(c: u64, below: Trees) -> bool
 pub fn is_choice_free(trees: Trees) -> bool
     ensures { (t : Row) → Are trees.entry t → result ≡ choice_free t }
 {
-    let Some((c, below)) = trees.first() else {
-        return true;
-    };
-    is_tree_free(c, below) && is_choice_free(trees.others(below.end()))
+    let mut rest = trees;
+    while let Some((c, below)) = rest.first() {
+        if !is_tree_free(c, below) {
+            return false;
+        }
+        rest = rest.others(below.end());
+    }
+    true
 }
