@@ -77,6 +77,10 @@ pub fn call(rule: &[u64], redex: Redex, space: &mut [u64]) -> Result<usize, No>
     requires { Spells ProgramRule rule.now }
     ensures { (program : Row) (argument : ℕ) → RuleOf program argument rule.now → Steps (fapp_line program argument) redex.entry.cells.now space.old space.new result }
 {
+    // Asked here too, so that no array is filled where the redex is no call of the rule's function.
+    if !calls(redex.head(), rule[1]) {
+        return Err(No::Formless);
+    }
     let left = Trees {
         cells: rule,
         at: 1,
